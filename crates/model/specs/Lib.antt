@@ -1,0 +1,7 @@
+pub mod Records
+pub mod Form
+pub mod Answers
+pub mod Needs
+pub mod Effects
+pub mod Flows
+pub mod Runs

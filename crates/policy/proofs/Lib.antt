@@ -1,0 +1,3 @@
+pub mod Subset
+pub mod Walk
+pub mod Count
