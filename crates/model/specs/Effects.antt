@@ -50,11 +50,11 @@ begins z x level C =
 abbrev gives : (Cards → Cards) → List Fact → Effect
 gives write facts = record { written = write; programs = λ p. p; parents = λ p. p; falls = λ f. false; comes = facts }
 
-abbrev ends : Fact → Effect
+abbrev pub ends : Fact → Effect
 ends f = record { written = λ C. C; programs = λ p. p; parents = λ p. p; falls = λ g. same g f; comes = [] }
 
 -- item i is gone: all that it had falls, a program field that names it becomes 0, and its children get its parent
-abbrev gone : ℕ → Effect
+abbrev pub gone : ℕ → Effect
 gone i =
     record { written = λ C. C; programs = λ p t. cond (eqb t i || eqb (p t) i) 0 (p t); parents = λ p t. cond (eqb (p t) i) (p i) (p t); falls = about i; comes = [] }
 

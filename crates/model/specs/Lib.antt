@@ -2,6 +2,8 @@ pub mod Records
 pub mod Form
 pub mod Answers
 pub mod Needs
+pub mod Judged
 pub mod Effects
 pub mod Flows
 pub mod Runs
+pub mod Laws

@@ -2,6 +2,7 @@
 //! The definitions stand in `specs/`; the types below are the words that they and all code above share.
 pub mod answer;
 pub mod fact;
+pub mod laws;
 pub mod record;
 pub mod request;
 

@@ -1,0 +1,10 @@
+pub mod Tests
+pub mod Facts
+pub mod Refusals
+pub mod Following
+pub mod Leastness
+pub mod Joining
+pub mod Outcome
+pub mod Replaying
+pub mod Levels
+pub mod Isolating
