@@ -1,0 +1,10 @@
+use Prim.Native.Nat.{ℕ}
+use mathlib.Core.Path.{_≡_}
+use mathlib.Core.Bool.{not, _&&_}
+use lib.Dec.{eqb, ltb}
+use Rattle.block.specs.Reading.{row64}
+use Rattle.block.proofs.forgetting.clear_column64.Given as given
+
+-- the rows below the index have lost the number
+abbrev pub Inv-loop-row : given.InvT-loop-row
+Inv-loop-row l = (x z : ℕ) → row64 (l .rows) x z ≡ (not (ltb x (l .row-index) && eqb z (l .k)) && row64 (l .entry .rows) x z)

@@ -1,0 +1,26 @@
+//! The answer to a request, and the block after it.
+ghost use mathlib.Core.Path.{_≡_};
+ghost use Rattle.block.specs.Reading.{state};
+ghost use Rattle.requests.specs.Answered.{Answered};
+use crate::check::check;
+use crate::effect::carry_out;
+use block::Block;
+use flows::settle;
+use model::Answer;
+use model::Request;
+use policy::HouseRule;
+use policy::LevelOrder;
+
+/// Answers a request on a started block: refused by the first need that fails, with nothing written, or else accepted.
+pub fn answer<O: LevelOrder, R: HouseRule>(block: &mut Block, order: &O, rule: &R, q: &Request) -> Answer
+    ensures { λ a. ⌜ Answered (meaning (now (order .entry))) (answers (now (rule .entry))) (now (block .entry)) (now (q .entry)) a (now (block .exit)) ⌝ }
+{
+    match check(block, order, rule, q) {
+        Err(refusal) => Answer::Refused(refusal),
+        Ok(kind) => {
+            carry_out(block, q, kind);
+            settle(&mut block.relations, &block.tables);
+            Answer::Accepted
+        }
+    }
+}

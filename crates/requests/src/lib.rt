@@ -1,0 +1,10 @@
+//! Requests: what each kind needs, and what an accepted one does.
+mod answering;
+mod check;
+mod effect;
+mod form;
+mod items;
+mod words;
+mod rows;
+
+pub use answering::answer;

@@ -1,0 +1,14 @@
+pub mod Options
+pub mod Cuts
+pub mod Numerals
+pub mod Digits
+pub mod Writings
+pub mod Reports
+pub mod Rows
+pub mod Bodies
+pub mod Orders
+pub mod Ranges
+pub mod Firsts
+pub mod Unique
+pub mod Walks
+pub mod Requests
