@@ -4,7 +4,7 @@ use native.Mathlib.Omega.{arith}
 use mathlib.Core.Path.{_≡_}
 use mathlib.Core.List.{List}
 use lib.Dec.{eqb}
-use lib.ListN.{length, getD}
+use lib.ListN.{getD}
 use Rattle.std.proofs.shelf.Ways.{tells}
 use Rattle.model.specs.Records.{State, about}
 use Rattle.block.specs.declared.block.Block.{Block}
@@ -12,13 +12,14 @@ use Rattle.block.specs.declared.tables.Session.{Session}
 use Rattle.block.specs.Reading.{state, sessionOf, noSession}
 use Rattle.block.specs.Writing.{dropping, untying, leaving, of-item, of-session}
 
--- all that is about a session, and all that is about another item
+-- the facts about a session, and those about an entity
 pub session-gone : (S : State) (i : ℕ) → dropping (of-session i) (dropping (of-item i) S) ≡ dropping (about i) S
 session-gone S i = grind (arith, tells)
 
 pub entity-gone : (b : Block) (i : ℕ) → 64 ≤ i → dropping (of-item i) (state b) ≡ dropping (about i) (state b)
 entity-gone b i h = grind (arith, tells)
 
+-- the block with other sessions
 abbrev with-sessions : Block → List Session → Block
 with-sessions b sessions =
     record {
@@ -27,6 +28,7 @@ with-sessions b sessions =
       relations = b .relations;
     }
 
+-- an item's number is never 0, the parent of all sessions past the end
 pub untied : (b : Block) (i : ℕ) (sessions : List Session) → 0 < i
     → ((t : ℕ) → t < 64 → getD sessions t noSession ≡ leaving (eqb t i) i (sessionOf (b .tables) i .parent) (getD (b .tables .sessions) t noSession))
     → state (with-sessions b sessions) ≡ untying i (state b)

@@ -1,5 +1,5 @@
 -- Equal states, equal blocks.
-use Prim.Native.Nat.{ℕ, zero, suc, _+_, _*_, _/_, _%_, _<_}
+use Prim.Native.Nat.{ℕ, zero, suc, _+_, _*_, _<_}
 use native.Mathlib.Omega.{arith}
 use mathlib.Core.Path.{_≡_, refl, sym, ap, ap₂, subst, _∙_}
 use mathlib.Core.Logic.{_⊎_, inl, inr}
@@ -40,7 +40,7 @@ same256 : (a b : Set256) → Wide256 a → Wide256 b → ((k : ℕ) → k < 256 
 same256 a b wa wb h =
     λ n. record {
       quarters = ext-getD none64 (a .quarters) (b .quarters) (wa .long ∙ sym (wb .long))
-        (λ j l. let f : j < 4 = omega (arith, wa .long) in same64 (getD (a .quarters) j none64) (getD (b .quarters) j none64) (wa .each j none64 f) (wb .each j none64 f)
+          (λ j l. let f : j < 4 = omega (arith, wa .long) in same64 (getD (a .quarters) j none64) (getD (b .quarters) j none64) (wa .each j none64 f) (wb .each j none64 f)
           (λ k lk. sym (quarter a j k lk) ∙ h (j * 64 + k) (omega arith) ∙ quarter b j k lk)) n;
     }
 
@@ -68,8 +68,8 @@ same-grid : (xs ys : List (List Set64)) → Grid xs → Grid ys → ((m : Mode) 
 same-grid xs ys gx gy h =
     ext-getD [] xs ys (gx .long ∙ sym (gy .long))
     (λ p l. let f : p < 4 = omega (arith, gx .long) in let m = mode-at p f in
-      same-rows64 256 (getD xs p []) (getD ys p []) (gx .each p [] f) (gy .each p [] f)
-      (λ x z lx lz. subst (λ (q : ℕ). row64 (getD xs q []) x z ≡ row64 (getD ys q []) x z) (m .1) (h (m .0) x z lx lz)))
+    same-rows64 256 (getD xs p []) (getD ys p []) (gx .each p [] f) (gy .each p [] f)
+    (λ x z lx lz. subst (λ (q : ℕ). row64 (getD xs q []) x z ≡ row64 (getD ys q []) x z) (m .1) (h (m .0) x z lx lz)))
 
 within : {X : Type 0} (n : ℕ) (xs : List X) (none : X) (i : ℕ) → i < n → at n xs none i ≡ getD xs i none
 within n xs none i h = cond-true (ltb i n) (getD xs i none) none (lt-ltb i n h)
@@ -104,7 +104,7 @@ module _ (a b : Block) (ta : SoundTables (a .tables)) (tb : SoundTables (b .tabl
           roles = same-records 32 noRole (a .tables .roles) (b .tables .roles) (ta .roles) (tb .roles) (λ i h. ap (λ (S : State). S .cards .roles i) same) n;
           items = same-records 256 noItem (a .tables .items) (b .tables .items) (ta .items) (tb .items) (λ i h. ap (λ (S : State). S .cards .items i) same) n;
           sessions = same-records 64 noSession (a .tables .sessions) (b .tables .sessions) (ta .sessions) (tb .sessions)
-            (λ i h. λ m. record { account = same m .cards .account i; life = same m .cards .life i; program = same m .program i; parent = same m .parent i }) n;
+              (λ i h. λ m. record { account = same m .cards .account i; life = same m .cards .life i; program = same m .program i; parent = same m .parent i }) n;
           live = same256 (a .tables .live) (b .tables .live) (ta .live) (tb .live) (λ k h. bounded k 256 _ _ h (λ m. same m .stands (Lives k))) n;
           held = same-rows64 64 (a .tables .held) (b .tables .held) (ta .held) (tb .held) (λ x z hx hz. bounded-twice x 64 z 64 _ _ hx hz (λ m. same m .stands (Held x z))) n;
           rights = same-grid (a .tables .rights) (b .tables .rights) (ta .rights) (tb .rights) (λ m x z hx hz. bounded-twice z 64 x 256 _ _ hz hx (λ k. same k .stands (Right z x m))) n;

@@ -13,11 +13,7 @@ use Rattle.block.specs.Reading.{noAccount, noRole, noItem}
 
 -- ## Facts
 
--- the fact stands or not, as given
-abbrev pub telling : Fact → Bool → State → State
-telling f told S =
-    record { cards = S .cards; program = S .program; parent = S .parent; stands = λ g. cond (same g f) told (S .stands g) }
-
+-- the fact stands from now on, or no more
 abbrev pub adding : Fact → State → State
 adding f S =
     record { cards = S .cards; program = S .program; parent = S .parent; stands = λ g. same g f || S .stands g }

@@ -40,6 +40,7 @@ fn forget64(rows: &mut [Set64], i: u32)
     clear_column64(rows, i);
 }
 
+/// Row i has no number.
 fn clear_row256(rows: &mut [Set256], i: u32)
     requires { ⌜ i < length (now rows) ⌝ }
     ensures { λ _. ⌜ ((x z : ℕ) → row256 (now (rows .exit)) x z ≡ (not (eqb x i) && row256 (now (rows .entry)) x z)) ⌝ }
@@ -47,6 +48,7 @@ fn clear_row256(rows: &mut [Set256], i: u32)
     rows[i as usize].clear();
 }
 
+/// No row has the number k.
 fn clear_column256(rows: &mut [Set256], k: u32)
     requires { ⌜ k < 256 ⌝ }
     ensures { λ _. ⌜ ((x z : ℕ) → row256 (now (rows .exit)) x z ≡ (not (eqb z k) && row256 (now (rows .entry)) x z)) ⌝ }
@@ -56,6 +58,7 @@ fn clear_column256(rows: &mut [Set256], k: u32)
     }
 }
 
+/// Row i has no number, and no row has the number i.
 fn forget256(rows: &mut [Set256], i: u32)
     requires { ⌜ i < length (now rows) ⌝ ∗ ⌜ i < 256 ⌝ }
     ensures { λ _. ⌜ ((x z : ℕ) → row256 (now (rows .exit)) x z ≡ (not (eqb x i || eqb z i) && row256 (now (rows .entry)) x z)) ⌝ }
@@ -89,10 +92,17 @@ fn left(session: Session, itself: bool, item: u32, parent: u32) -> Session
     ensures { λ r. ⌜ r ≡ leaving itself item parent session ⌝ }
 {
     Session {
-        account: session.account,
-        life: session.life,
-        program: if itself || session.program == item { 0 } else { session.program },
-        parent: if session.parent == item { parent } else { session.parent },
+        program: if itself || session.program == item {
+            0
+        } else {
+            session.program
+        },
+        parent: if session.parent == item {
+            parent
+        } else {
+            session.parent
+        },
+        ..session
     }
 }
 

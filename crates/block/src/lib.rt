@@ -13,3 +13,4 @@ pub use block::Block;
 pub use relations::Relations;
 pub use tables::Session;
 pub use tables::Tables;
+pub use telling::state_tells_all;

@@ -1,11 +1,12 @@
 //! What the tables say of any number.
 ghost use mathlib.Core.Path.{_≡_};
-ghost use mathlib.Core.Bool.{false};
-ghost use Rattle.block.specs.Reading.{stateOf, standing, sessionOf, cardsOf, state};
-ghost use Rattle.block.specs.declared.relations.Relations.{Relations as Rows};
+ghost use Rattle.block.specs.Reading.{sessionOf, cardsOf, state};
 ghost use Rattle.model.specs.Records.{rank};
+use crate::blank::NO_ACCOUNT;
+use crate::blank::NO_ITEM;
+use crate::blank::NO_ROLE;
+use crate::blank::NO_SESSION;
 use crate::block::Block;
-use crate::relations::Relations;
 use crate::tables::Session;
 use crate::tables::Tables;
 use model::Account;
@@ -29,13 +30,7 @@ impl Tables {
         if n < 16 {
             return self.accounts[n as usize];
         }
-        Account {
-            defined: false,
-            level: 0,
-            guarded: false,
-            takes: 0,
-            key: 0,
-        }
+        NO_ACCOUNT
     }
 
     /// The role of this number.
@@ -45,13 +40,7 @@ impl Tables {
         if n < 32 {
             return self.roles[n as usize];
         }
-        Role {
-            defined: false,
-            level: 0,
-            administrative: false,
-            manages: 0,
-            key: 0,
-        }
+        NO_ROLE
     }
 
     /// What is written of the item of this number.
@@ -61,12 +50,7 @@ impl Tables {
         if n < 256 {
             return self.items[n as usize];
         }
-        Item {
-            used: false,
-            container: false,
-            level: 0,
-            mark: 0,
-        }
+        NO_ITEM
     }
 
     /// The session of this number.
@@ -76,12 +60,7 @@ impl Tables {
         if n < 64 {
             return self.sessions[n as usize];
         }
-        Session {
-            account: 0,
-            life: 0,
-            program: 0,
-            parent: 0,
-        }
+        NO_SESSION
     }
 }
 
@@ -95,8 +74,12 @@ impl Block {
         match fact {
             Fact::Lives(i) => i < 256 && t.live.has(i as usize),
             Fact::Held(s, role) => s < 64 && role < 64 && t.held[s as usize].has(role as usize),
-            Fact::Right(role, i, mode) => role < 64 && i < 256 && t.rights[place(mode)][i as usize].has(role as usize),
-            Fact::Access(s, i, mode) => s < 64 && i < 256 && t.accesses[place(mode)][i as usize].has(s as usize),
+            Fact::Right(role, i, mode) => role < 64
+                && i < 256
+                && t.rights[place(mode)][i as usize].has(role as usize),
+            Fact::Access(s, i, mode) => s < 64
+                && i < 256
+                && t.accesses[place(mode)][i as usize].has(s as usize),
             Fact::Holding(c, e) => c < 256 && e < 256 && t.contents[c as usize].has(e as usize),
             Fact::Flow(a, b) => a < 256 && b < 256 && r.flows[a as usize].has(b as usize),
             Fact::Control(s, u) => s < 64 && u < 64 && r.control[s as usize].has(u as usize),

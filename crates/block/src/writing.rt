@@ -7,7 +7,7 @@ ghost use lib.Dec.{eqb};
 ghost use lib.ListN.{length, getD};
 ghost use Rattle.model.specs.Records.{rank};
 ghost use Rattle.block.specs.Reading.{state, Placed, row64, row256};
-ghost use Rattle.block.specs.Writing.{telling, adding, removing};
+ghost use Rattle.block.specs.Writing.{adding, removing};
 use crate::block::Block;
 use crate::reading::place;
 use model::Fact;
@@ -15,7 +15,7 @@ use model::Mode;
 use sets::Set64;
 use sets::Set256;
 
-/// Whether row i has the number k.
+/// Row i has the number k from now on, or no more.
 fn put64(rows: &mut [Set64], i: u32, k: u32, present: bool)
     requires { ⌜ i < length (now rows) ⌝ ∗ ⌜ k < 64 ⌝ }
     ensures { λ _. ⌜ ((x z : ℕ) → row64 (now (rows .exit)) x z ≡ cond (eqb x i && eqb z k) present (row64 (now (rows .entry)) x z)) ⌝ }
@@ -27,6 +27,7 @@ fn put64(rows: &mut [Set64], i: u32, k: u32, present: bool)
     }
 }
 
+/// Row i has the number k from now on, or no more.
 fn put256(rows: &mut [Set256], i: u32, k: u32, present: bool)
     requires { ⌜ i < length (now rows) ⌝ ∗ ⌜ k < 256 ⌝ }
     ensures { λ _. ⌜ ((x z : ℕ) → row256 (now (rows .exit)) x z ≡ cond (eqb x i && eqb z k) present (row256 (now (rows .entry)) x z)) ⌝ }
@@ -47,10 +48,10 @@ fn put_by_mode(tables: &mut [[Set64; 256]; 4], mode: Mode, i: u32, k: u32, prese
 }
 
 impl Block {
-    /// Whether the fact stands from now on.
+    /// The fact stands from now on, or no more.
     fn tell(&mut self, fact: Fact, stands: bool)
         requires { ⌜ Placed fact ⌝ }
-        ensures state { λ _. ⌜ state (now (self .exit)) ≡ telling fact stands (state (now (self .entry))) ⌝ }
+        ensures state { λ _. ⌜ state (now (self .exit)) ≡ cond stands (adding fact (state (now (self .entry)))) (removing fact (state (now (self .entry)))) ⌝ }
         ensures started { λ _. ⌜ now (self .exit) .started ≡ now (self .entry) .started ⌝ }
     {
         let t = &mut self.tables;

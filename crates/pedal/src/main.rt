@@ -5,8 +5,8 @@ mod input;
 use block::Block;
 use input::next_line;
 use input::split;
-use model::Fact;
 use model::Request;
+use monitor::report;
 use monitor::request;
 use monitor::start;
 use policy::Ladder;
@@ -16,6 +16,7 @@ use policy::Separation;
 use policy::SeparationRule;
 use std::io;
 use std::io::Read;
+use std::io::Write;
 use text::request::request_numbers;
 
 /// The number of a line of another form.
@@ -42,16 +43,16 @@ fn answer_lines(rt: &LibcRuntime, block: &mut Block, rule: &Separation<'_>, line
     Ok(())
 }
 
+/// Room for the longest report: 63 times 62 lines of at most 14 bytes.
+const LONGEST_REPORT: usize = 54684;
+
 /// Prints who controls whom.
 fn print_report(rt: &LibcRuntime, block: &Block) -> io::Result<()> {
-    for s in 1..64 {
-        for t in 1..64 {
-            if s != t && block.stands(Fact::Control(s, t)) {
-                println!(rt, "control={s},{t}")?;
-            }
-        }
+    let mut buffer = vec![in rt.alloc(); 0; LONGEST_REPORT]?;
+    match report(block, buffer.as_mut_slice()) {
+        Ok(length) => rt.stdout().write_all(buffer.as_slice().get(0..length).unwrap_or(&[])),
+        Err(_) => Ok(()),
     }
-    Ok(())
 }
 
 fn run(rt: &LibcRuntime, block: &mut Block, rule: &Separation<'_>, input: &[u8]) -> io::Result<()> {

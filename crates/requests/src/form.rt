@@ -13,7 +13,7 @@ fn between(low: u32, high: u32, n: u32) -> bool
 }
 
 /// An unused number is 0.
-fn idle(span: Span, n: u32) -> bool
+pub fn idle(span: Span, n: u32) -> bool
     ensures { λ r. ⌜ r ≡ isIdle span n ⌝ }
 {
     match span {
@@ -23,7 +23,7 @@ fn idle(span: Span, n: u32) -> bool
 }
 
 /// A used number is in its range.
-fn admits(span: Span, n: u32) -> bool
+pub fn admits(span: Span, n: u32) -> bool
     ensures { λ r. ⌜ r ≡ isAdmitted span n ⌝ }
 {
     match span {
@@ -35,11 +35,11 @@ fn admits(span: Span, n: u32) -> bool
 }
 
 /// On a session only right and access 8 exist.
-fn suits(span: Span, y: u32, m: u32) -> bool
+pub fn suits(span: Span, y: u32, m: u32) -> bool
     ensures { λ r. ⌜ r ≡ isSuited span y m ⌝ }
 {
     match span {
-        Span::Right | Span::Access => y >= 64 || m == 8,
+        Span::Right | Span::Access if y < 64 => m == 8,
         _ => true,
     }
 }

@@ -8,3 +8,6 @@ mod words;
 mod rows;
 
 pub use answering::answer;
+pub use form::admits;
+pub use form::idle;
+pub use form::suits;

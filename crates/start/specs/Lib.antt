@@ -1,3 +1,4 @@
 pub mod Setup
 pub mod Grounds
 pub mod Starts
+pub mod Laws

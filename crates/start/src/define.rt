@@ -92,7 +92,13 @@ fn plus(block: &mut Block, line: Line)
     match line {
         Line::Root { level, mark } => add_root(block, level, mark),
         Line::Gate { object } => block.set_gate(object),
-        Line::Account { number, level, guarded, roles, key } => block.set_account(
+        Line::Account {
+            number,
+            level,
+            guarded,
+            roles,
+            key,
+        } => block.set_account(
             number,
             Account {
                 defined: true,
@@ -102,7 +108,13 @@ fn plus(block: &mut Block, line: Line)
                 key,
             },
         ),
-        Line::Role { number, level, kind, manages, key } => block.set_role(
+        Line::Role {
+            number,
+            level,
+            kind,
+            manages,
+            key,
+        } => block.set_role(
             number,
             Role {
                 defined: true,
@@ -112,9 +124,24 @@ fn plus(block: &mut Block, line: Line)
                 key,
             },
         ),
-        Line::Container { number, level, mark, holder } => add_entity(block, number, holder, true, level, mark),
-        Line::Object { number, level, holder } => add_entity(block, number, holder, false, level, 0),
-        Line::Session { number, account, level, program, parent } => add_session(
+        Line::Container {
+            number,
+            level,
+            mark,
+            holder,
+        } => add_entity(block, number, holder, true, level, mark),
+        Line::Object {
+            number,
+            level,
+            holder,
+        } => add_entity(block, number, holder, false, level, 0),
+        Line::Session {
+            number,
+            account,
+            level,
+            program,
+            parent,
+        } => add_session(
             block,
             number,
             level,
@@ -127,7 +154,11 @@ fn plus(block: &mut Block, line: Line)
         ),
         Line::Right { role, item, right } => block.add(Fact::Right(role, item, Mode::of(right))),
         Line::Held { session, role } => add_held(block, session, role),
-        Line::Access { session, item, access } => block.add(Fact::Access(session, item, Mode::of(access))),
+        Line::Access {
+            session,
+            item,
+            access,
+        } => block.add(Fact::Access(session, item, Mode::of(access))),
     }
 }
 

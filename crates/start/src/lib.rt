@@ -1,5 +1,6 @@
 //! The second reading of a start text, and the block that it fills.
 mod define;
+pub mod laws;
 mod lines;
 pub mod reading;
 mod second;

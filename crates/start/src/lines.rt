@@ -3,7 +3,6 @@ ghost use mathlib.Core.Path.{_≡_};
 ghost use Rattle.block.specs.Reading.{state};
 ghost use Rattle.model.specs.Judged.{Judged};
 ghost use Rattle.start.specs.Grounds.{asks};
-use flows::reaches;
 use crate::words::are_below;
 use crate::words::are_defined;
 use crate::words::are_ordinary;
@@ -12,13 +11,21 @@ use crate::words::is_object;
 use crate::words::is_object_or_none;
 use crate::words::is_strong;
 use block::Block;
+use flows::reaches;
 use model::Refusal;
 use policy::HouseRule;
 use policy::LevelOrder;
 use policy::has_role;
 use text::record::Line;
 
-fn root<O: LevelOrder, R: HouseRule>(order: &O, rule: &R, all: &Block, earlier: &Block, level: u32, mark: u32) -> Result<(), Refusal>
+fn root<O: LevelOrder, R: HouseRule>(
+    order: &O,
+    rule: &R,
+    all: &Block,
+    earlier: &Block,
+    level: u32,
+    mark: u32,
+) -> Result<(), Refusal>
     ensures { λ r. ⌜ Judged (asks (meaning (now (order .entry))) (answers (now (rule .entry))) (state (now (all .entry))) (state (now (earlier .entry))) (Line.Root level mark)) r ⌝ }
 {
     if !order.knows(level) {
@@ -27,7 +34,13 @@ fn root<O: LevelOrder, R: HouseRule>(order: &O, rule: &R, all: &Block, earlier: 
     Ok(())
 }
 
-fn gate<O: LevelOrder, R: HouseRule>(order: &O, rule: &R, all: &Block, earlier: &Block, object: u32) -> Result<(), Refusal>
+fn gate<O: LevelOrder, R: HouseRule>(
+    order: &O,
+    rule: &R,
+    all: &Block,
+    earlier: &Block,
+    object: u32,
+) -> Result<(), Refusal>
     ensures { λ r. ⌜ Judged (asks (meaning (now (order .entry))) (answers (now (rule .entry))) (state (now (all .entry))) (state (now (earlier .entry))) (Line.Gate object)) r ⌝ }
 {
     if !is_object(all, object) {
@@ -39,10 +52,23 @@ fn gate<O: LevelOrder, R: HouseRule>(order: &O, rule: &R, all: &Block, earlier: 
     Ok(())
 }
 
-fn account<O: LevelOrder, R: HouseRule>(order: &O, rule: &R, all: &Block, earlier: &Block, number: u32, level: u32, guarded: u32, roles: u32, key: u32) -> Result<(), Refusal>
+fn account<O: LevelOrder, R: HouseRule>(
+    order: &O,
+    rule: &R,
+    all: &Block,
+    earlier: &Block,
+    number: u32,
+    level: u32,
+    guarded: u32,
+    roles: u32,
+    key: u32,
+) -> Result<(), Refusal>
     ensures { λ r. ⌜ Judged (asks (meaning (now (order .entry))) (answers (now (rule .entry))) (state (now (all .entry))) (state (now (earlier .entry))) (Line.Account number level guarded roles key)) r ⌝ }
 {
-    if earlier.tables.account(number).defined || !are_defined(all, roles) || !is_object_or_none(all, key) {
+    if earlier.tables.account(number).defined
+        || !are_defined(all, roles)
+        || !is_object_or_none(all, key)
+    {
         return Err(Refusal::LineUndefined);
     }
     if !order.knows(level) {
@@ -57,10 +83,23 @@ fn account<O: LevelOrder, R: HouseRule>(order: &O, rule: &R, all: &Block, earlie
     Ok(())
 }
 
-fn role<O: LevelOrder, R: HouseRule>(order: &O, rule: &R, all: &Block, earlier: &Block, number: u32, level: u32, kind: u32, manages: u32, key: u32) -> Result<(), Refusal>
+fn role<O: LevelOrder, R: HouseRule>(
+    order: &O,
+    rule: &R,
+    all: &Block,
+    earlier: &Block,
+    number: u32,
+    level: u32,
+    kind: u32,
+    manages: u32,
+    key: u32,
+) -> Result<(), Refusal>
     ensures { λ r. ⌜ Judged (asks (meaning (now (order .entry))) (answers (now (rule .entry))) (state (now (all .entry))) (state (now (earlier .entry))) (Line.Role number level kind manages key)) r ⌝ }
 {
-    if earlier.tables.role(number).defined || !are_ordinary(all, manages) || !is_object_or_none(all, key) {
+    if earlier.tables.role(number).defined
+        || !are_ordinary(all, manages)
+        || !is_object_or_none(all, key)
+    {
         return Err(Refusal::LineUndefined);
     }
     if !order.knows(level) {
@@ -69,7 +108,16 @@ fn role<O: LevelOrder, R: HouseRule>(order: &O, rule: &R, all: &Block, earlier: 
     Ok(())
 }
 
-fn container<O: LevelOrder, R: HouseRule>(order: &O, rule: &R, all: &Block, earlier: &Block, number: u32, level: u32, mark: u32, holder: u32) -> Result<(), Refusal>
+fn container<O: LevelOrder, R: HouseRule>(
+    order: &O,
+    rule: &R,
+    all: &Block,
+    earlier: &Block,
+    number: u32,
+    level: u32,
+    mark: u32,
+    holder: u32,
+) -> Result<(), Refusal>
     ensures { λ r. ⌜ Judged (asks (meaning (now (order .entry))) (answers (now (rule .entry))) (state (now (all .entry))) (state (now (earlier .entry))) (Line.Container number level mark holder)) r ⌝ }
 {
     if earlier.tables.item(number).used || !is_container(all, holder) || holder >= number {
@@ -84,7 +132,15 @@ fn container<O: LevelOrder, R: HouseRule>(order: &O, rule: &R, all: &Block, earl
     Ok(())
 }
 
-fn object<O: LevelOrder, R: HouseRule>(order: &O, rule: &R, all: &Block, earlier: &Block, number: u32, level: u32, holder: u32) -> Result<(), Refusal>
+fn object<O: LevelOrder, R: HouseRule>(
+    order: &O,
+    rule: &R,
+    all: &Block,
+    earlier: &Block,
+    number: u32,
+    level: u32,
+    holder: u32,
+) -> Result<(), Refusal>
     ensures { λ r. ⌜ Judged (asks (meaning (now (order .entry))) (answers (now (rule .entry))) (state (now (all .entry))) (state (now (earlier .entry))) (Line.Object number level holder)) r ⌝ }
 {
     if earlier.tables.item(number).used || !is_container(all, holder) {
@@ -99,10 +155,23 @@ fn object<O: LevelOrder, R: HouseRule>(order: &O, rule: &R, all: &Block, earlier
     Ok(())
 }
 
-fn session<O: LevelOrder, R: HouseRule>(order: &O, rule: &R, all: &Block, earlier: &Block, number: u32, account: u32, level: u32, program: u32, parent: u32) -> Result<(), Refusal>
+fn session<O: LevelOrder, R: HouseRule>(
+    order: &O,
+    rule: &R,
+    all: &Block,
+    earlier: &Block,
+    number: u32,
+    account: u32,
+    level: u32,
+    program: u32,
+    parent: u32,
+) -> Result<(), Refusal>
     ensures { λ r. ⌜ Judged (asks (meaning (now (order .entry))) (answers (now (rule .entry))) (state (now (all .entry))) (state (now (earlier .entry))) (Line.Session number account level program parent)) r ⌝ }
 {
-    if earlier.tables.item(number).used || !all.tables.account(account).defined || !is_object_or_none(all, program) {
+    if earlier.tables.item(number).used
+        || !all.tables.account(account).defined
+        || !is_object_or_none(all, program)
+    {
         return Err(Refusal::LineUndefined);
     }
     if parent != 0 && (!all.tables.item(parent).used || parent >= number) {
@@ -120,19 +189,36 @@ fn session<O: LevelOrder, R: HouseRule>(order: &O, rule: &R, all: &Block, earlie
     Ok(())
 }
 
-fn right<O: LevelOrder, R: HouseRule>(order: &O, rule: &R, all: &Block, earlier: &Block, role: u32, item: u32, right: u32) -> Result<(), Refusal>
+fn right<O: LevelOrder, R: HouseRule>(
+    order: &O,
+    rule: &R,
+    all: &Block,
+    earlier: &Block,
+    role: u32,
+    item: u32,
+    right: u32,
+) -> Result<(), Refusal>
     ensures { λ r. ⌜ Judged (asks (meaning (now (order .entry))) (answers (now (rule .entry))) (state (now (all .entry))) (state (now (earlier .entry))) (Line.Right role item right)) r ⌝ }
 {
     if !all.tables.role(role).defined || !all.tables.item(item).used {
         return Err(Refusal::LineUndefined);
     }
-    if is_strong(right) && !order.at_or_below(all.tables.item(item).level, all.tables.role(role).level) {
+    if is_strong(right)
+        && !order.at_or_below(all.tables.item(item).level, all.tables.role(role).level)
+    {
         return Err(Refusal::LineLevels);
     }
     Ok(())
 }
 
-fn held<O: LevelOrder, R: HouseRule>(order: &O, rule: &R, all: &Block, earlier: &Block, session: u32, role: u32) -> Result<(), Refusal>
+fn held<O: LevelOrder, R: HouseRule>(
+    order: &O,
+    rule: &R,
+    all: &Block,
+    earlier: &Block,
+    session: u32,
+    role: u32,
+) -> Result<(), Refusal>
     ensures { λ r. ⌜ Judged (asks (meaning (now (order .entry))) (answers (now (rule .entry))) (state (now (all .entry))) (state (now (earlier .entry))) (Line.Held session role)) r ⌝ }
 {
     let account = all.tables.session(session).account;
@@ -151,13 +237,23 @@ fn held<O: LevelOrder, R: HouseRule>(order: &O, rule: &R, all: &Block, earlier: 
     Ok(())
 }
 
-fn access<O: LevelOrder, R: HouseRule>(order: &O, rule: &R, all: &Block, earlier: &Block, session: u32, item: u32, access: u32) -> Result<(), Refusal>
+fn access<O: LevelOrder, R: HouseRule>(
+    order: &O,
+    rule: &R,
+    all: &Block,
+    earlier: &Block,
+    session: u32,
+    item: u32,
+    access: u32,
+) -> Result<(), Refusal>
     ensures { λ r. ⌜ Judged (asks (meaning (now (order .entry))) (answers (now (rule .entry))) (state (now (all .entry))) (state (now (earlier .entry))) (Line.Access session item access)) r ⌝ }
 {
     if !all.tables.item(session).used || !all.tables.item(item).used {
         return Err(Refusal::LineUndefined);
     }
-    if is_strong(access) && !order.at_or_below(all.tables.item(item).level, all.tables.item(session).level) {
+    if is_strong(access)
+        && !order.at_or_below(all.tables.item(item).level, all.tables.item(session).level)
+    {
         return Err(Refusal::LineLevels);
     }
     if !reaches(all, order, session, item) {
@@ -167,19 +263,84 @@ fn access<O: LevelOrder, R: HouseRule>(order: &O, rule: &R, all: &Block, earlier
 }
 
 /// The needs of a line, where all lines define `all`, and those before it `earlier`.
-pub fn judge<O: LevelOrder, R: HouseRule>(order: &O, rule: &R, all: &Block, earlier: &Block, line: Line) -> Result<(), Refusal>
+pub fn judge<O: LevelOrder, R: HouseRule>(
+    order: &O,
+    rule: &R,
+    all: &Block,
+    earlier: &Block,
+    line: Line,
+) -> Result<(), Refusal>
     ensures { λ r. ⌜ Judged (asks (meaning (now (order .entry))) (answers (now (rule .entry))) (state (now (all .entry))) (state (now (earlier .entry))) line) r ⌝ }
 {
     match line {
         Line::Root { level, mark } => root(order, rule, all, earlier, level, mark),
         Line::Gate { object } => gate(order, rule, all, earlier, object),
-        Line::Account { number, level, guarded, roles, key } => account(order, rule, all, earlier, number, level, guarded, roles, key),
-        Line::Role { number, level, kind, manages, key } => role(order, rule, all, earlier, number, level, kind, manages, key),
-        Line::Container { number, level, mark, holder } => container(order, rule, all, earlier, number, level, mark, holder),
-        Line::Object { number, level, holder } => object(order, rule, all, earlier, number, level, holder),
-        Line::Session { number, account, level, program, parent } => session(order, rule, all, earlier, number, account, level, program, parent),
-        Line::Right { role, item, right } => crate::lines::right(order, rule, all, earlier, role, item, right),
+        Line::Account {
+            number,
+            level,
+            guarded,
+            roles,
+            key,
+        } => account(
+            order,
+            rule,
+            all,
+            earlier,
+            number,
+            level,
+            guarded,
+            roles,
+            key,
+        ),
+        Line::Role {
+            number,
+            level,
+            kind,
+            manages,
+            key,
+        } => role(order, rule, all, earlier, number, level, kind, manages, key),
+        Line::Container {
+            number,
+            level,
+            mark,
+            holder,
+        } => container(order, rule, all, earlier, number, level, mark, holder),
+        Line::Object {
+            number,
+            level,
+            holder,
+        } => object(order, rule, all, earlier, number, level, holder),
+        Line::Session {
+            number,
+            account,
+            level,
+            program,
+            parent,
+        } => session(
+            order,
+            rule,
+            all,
+            earlier,
+            number,
+            account,
+            level,
+            program,
+            parent,
+        ),
+        Line::Right { role, item, right } => crate::lines::right(
+            order,
+            rule,
+            all,
+            earlier,
+            role,
+            item,
+            right,
+        ),
         Line::Held { session, role } => held(order, rule, all, earlier, session, role),
-        Line::Access { session, item, access } => crate::lines::access(order, rule, all, earlier, session, item, access),
+        Line::Access {
+            session,
+            item,
+            access,
+        } => crate::lines::access(order, rule, all, earlier, session, item, access),
     }
 }

@@ -28,7 +28,13 @@ pub fn fill(text: &[u8], all: &mut Block)
 }
 
 /// Tries the needs of each line, where all lines define `all`; `earlier` begins empty.
-pub fn second_reading<O: LevelOrder, R: HouseRule>(order: &O, rule: &R, text: &[u8], all: &Block, earlier: &mut Block) -> Result<(), Stop>
+pub fn second_reading<O: LevelOrder, R: HouseRule>(
+    order: &O,
+    rule: &R,
+    text: &[u8],
+    all: &Block,
+    earlier: &mut Block,
+) -> Result<(), Stop>
     ensures { λ r. ⌜ ((ls : List Line) → Accepted (now (text .entry)) ls → state (now (all .entry)) ≡ listed ls → state (now (earlier .entry)) ≡ empty → Second (meaning (now (order .entry))) (answers (now (rule .entry))) ls r) ⌝ }
 {
     let mut reader = begin(text);

@@ -6,8 +6,8 @@ ghost use Rattle.block.specs.Writing.{empty};
 ghost use Rattle.start.specs.Starts.{Refuses, Begins, Start, Reads, refusalOf as refusalOfFault};
 use crate::second::fill;
 use crate::second::second_reading;
-use flows::settle;
 use block::Block;
+use flows::settle;
 use model::Answer;
 use model::Refusal;
 use policy::HouseRule;
@@ -28,7 +28,12 @@ fn refusal_of(fault: Fault) -> Refusal
 }
 
 /// Both readings of a text, into an empty block: the block that the text begins, or the answer that refuses it.
-fn read<O: LevelOrder, R: HouseRule>(order: &O, rule: &R, text: &[u8], all: &mut Block) -> Result<(), Answer>
+fn read<O: LevelOrder, R: HouseRule>(
+    order: &O,
+    rule: &R,
+    text: &[u8],
+    all: &mut Block,
+) -> Result<(), Answer>
     requires { ⌜ state (now all) ≡ empty ⌝ }
     ensures { λ r. ⌜ Reads (meaning (now (order .entry))) (answers (now (rule .entry))) (now (text .entry)) r (state (now (all .exit))) ⌝ }
 {
@@ -45,7 +50,12 @@ fn read<O: LevelOrder, R: HouseRule>(order: &O, rule: &R, text: &[u8], all: &mut
 }
 
 /// Starts a blank block from a text; a started block, and a text that is refused, leave it as it was.
-pub fn start<O: LevelOrder, R: HouseRule>(block: &mut Block, order: &O, rule: &R, text: &[u8]) -> Answer
+pub fn start<O: LevelOrder, R: HouseRule>(
+    block: &mut Block,
+    order: &O,
+    rule: &R,
+    text: &[u8],
+) -> Answer
     ensures { λ a. ⌜ Start (meaning (now (order .entry))) (answers (now (rule .entry))) (now (block .entry)) (now (text .entry)) a (now (block .exit)) ⌝ }
 {
     if block.started {

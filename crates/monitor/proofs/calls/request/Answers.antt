@@ -1,8 +1,9 @@
-use Rattle.monitor.specs.Calls.{blank, answered}
+use Rattle.monitor.proofs.Lawful.{after-request}
 use Rattle.monitor.proofs.calls.request.Needs as need
 
-pub returns-then-not-block : need.returns-then-not-block
-returns-then-not-block g c = blank (c .if-not-block .taken)
-
 pub returns : need.returns
-returns g c = answered (c .if-not-block .left) (c .answer .ensures)
+returns g c =
+    let o = g .O·LevelOrder .meaning (c .args .order .now) in
+    let h = g .R·HouseRule .answers (c .args .rule .now) in
+    let law = g .O·LevelOrder·met .lawful (c .args .order .now) in
+    record { outcome = c .answer-one .ensures; laws = after-request o h law (c .answer-one .ensures) }

@@ -11,7 +11,6 @@ use Rattle.start.specs.Setup.{listed}
 use Rattle.start.specs.Grounds.{Clean}
 use Rattle.start.proofs.second.second_reading.Given as given
 
-
 abbrev pub μ-loop-line : given.MeasureT-loop-line
 μ-loop-line g l = length (rest (l .reader))
 

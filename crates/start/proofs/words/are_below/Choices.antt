@@ -2,7 +2,6 @@ use Prim.Native.Nat.{ℕ, _<_}
 use lib.Dec.{T}
 use Rattle.sets.specs.Member.{bit}
 use Rattle.block.specs.Reading.{state}
-
 use Rattle.start.proofs.words.are_below.Given as given
 
 abbrev pub Inv-loop-n : given.InvT-loop-n
