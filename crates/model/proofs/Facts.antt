@@ -4,7 +4,7 @@ use mathlib.Core.Path.{_≡_, refl, sym, _∙_, ap, subst}
 use mathlib.Core.Logic.{_⊎_, inl, inr, ⊎-elim}
 use mathlib.Core.List.{List, [], _∷_}
 use mathlib.Core.Bool.{Bool, true, false, not, cond, _&&_, _||_}
-use lib.Dec.{T, eqb, eqb→eq, eqb-refl, T-not, not-T}
+use lib.Dec.{T, eqb, eqb→eq, T-not, not-T}
 use Rattle.std.specs.shelf.Lists.{All}
 use Rattle.model.specs.declared.fact.Fact.{Fact}
 use Rattle.model.specs.declared.fact.Fact.the-variants.{Lives, Held, Right, Access, Holding, Flow, Control}
@@ -50,10 +50,6 @@ same-codes c d t =
 pub same-equal : (f g : Fact) → T (same f g) → f ≡ g
 same-equal f g t = sym (decoded-code f) ∙ (ap decoded (same-codes (code f) (code g) t) ∙ decoded-code g)
 
-pub same-itself : (f : Fact) → T (same f f)
-same-itself f =
-    joined _ _ (eqb-refl (code f .0)) (joined _ _ (eqb-refl (code f .1)) (joined _ _ (eqb-refl (code f .2)) (eqb-refl (code f .3))))
-
 -- what holds of each fact listed holds of each that is among them
 pub listed : (P : Fact → Type 0) (fs : List Fact) → All P fs → (f : Fact) → T (among f fs) → P f
 listed P [] all f t = absurd t
@@ -75,36 +71,3 @@ module _ (e : Effect) (stands : Fact → Bool) (f : Fact) where
 
   pub left-comes : T (among f (e .comes)) → T (left e stands f)
   left-comes c = or-right _ _ c
-
--- where nothing falls, the facts that come join those that stand
-pub adds : (e : Effect) (stands : Fact → Bool) → ((f : Fact) → e .falls f ≡ false) → (f : Fact) → left e stands f ≡ (stands f || among f (e .comes))
-adds e stands none f = rw (none f) (go (stands f))
-  where
-    go : (b : Bool) → ((b && true) || among f (e .comes)) ≡ (b || among f (e .comes))
-    go true = refl
-    go false = refl
-
--- one by one, too
-abbrev pub added : (Fact → Bool) → List Fact → Fact → Bool
-added stands [] = stands
-added stands (g ∷ gs) = added (λ f. stands f || same f g) gs
-
-pub adds-each : (stands : Fact → Bool) (fs : List Fact) (f : Fact) → added stands fs f ≡ (stands f || among f fs)
-adds-each stands [] f = go (stands f)
-  where
-    go : (b : Bool) → b ≡ (b || false)
-    go true = refl
-    go false = refl
-adds-each stands (g ∷ gs) f = adds-each (λ f. stands f || same f g) gs f ∙ go (stands f)
-  where
-    go : (b : Bool) → ((b || same f g) || among f gs) ≡ (b || (same f g || among f gs))
-    go true = refl
-    go false = refl
-
--- where nothing comes, what does not fall goes on
-pub loses : (e : Effect) (stands : Fact → Bool) → e .comes ≡ [] → (f : Fact) → left e stands f ≡ (stands f && not (e .falls f))
-loses e stands none f = rw none (go (stands f && not (e .falls f)))
-  where
-    go : (b : Bool) → (b || false) ≡ b
-    go true = refl
-    go false = refl

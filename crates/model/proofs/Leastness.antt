@@ -4,9 +4,8 @@ use mathlib.Core.Logic.{_≢_}
 use Rattle.model.specs.declared.fact.Fact.{Fact}
 use Rattle.model.specs.declared.fact.Fact.the-variants.{Lives, Access, Flow, Control}
 use Rattle.model.specs.declared.fact.Mode.the-variants.{Read, Write, Own}
-use Rattle.model.specs.Records.{Cards, State, Stands, Session}
+use Rattle.model.specs.Records.{Cards, Session}
 use Rattle.model.specs.Flows.{Unguarded, key, Derived, before, itself, owner, onward, writing, reading, passing, by-program, by-key, outward, inward}
-use Rattle.model.specs.Laws.{Settled}
 
 -- the seven rules, of the facts that P has
 pub record Obeys (C : Cards) (program : ℕ → ℕ) (P : Fact → Type 0) : Type 0 where
@@ -33,11 +32,3 @@ least k o (by-program s t n d) = o .by-program _ _ s t n (least k o d)
 least k o (by-key s t l n d) = o .by-key _ _ s t (least k o l) n (least k o d)
 least k o (outward u c d) = o .outward _ _ _ u (least k o c) (least k o d)
 least k o (inward u c d) = o .inward _ _ _ u (least k o c) (least k o d)
-
--- a state is settled exactly if what stands obeys the rules
-pub obeys-settled : (S : State) → Obeys (S .cards) (S .program) (Stands S) → Settled S
-obeys-settled S o f d = least (λ g s. s) o d
-
-pub settled-obeys : (S : State) → Settled S → Obeys (S .cards) (S .program) (Stands S)
-settled-obeys S set =
-    record { itself = λ s h a. set _ (itself h (before a)); owner = λ s t h i a. set _ (owner h i (before a)); onward = λ s t u a b. set _ (onward (before a) (before b)); writing = λ s t e u a b. set _ (writing u (before a) (before b)); reading = λ s t e u a b. set _ (reading u (before a) (before b)); passing = λ a b c d e. set _ (passing (before d) (before e)); by-program = λ s t h i n a. set _ (by-program h i n (before a)); by-key = λ s t h i a n b. set _ (by-key h i (before a) n (before b)); outward = λ s t e u a b. set _ (outward u (before a) (before b)); inward = λ s t e u a b. set _ (inward u (before a) (before b)) }

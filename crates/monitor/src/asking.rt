@@ -19,7 +19,9 @@ use requests::idle;
 use requests::suits;
 
 const ROLE: Span = Span::Within(0, 31);
+
 const ITEM: Span = Span::Within(1, 255);
+
 const SESSION: Span = Span::Within(1, 63);
 
 /// The six questions, from 1 on.

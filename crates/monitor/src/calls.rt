@@ -9,8 +9,8 @@ ghost use Rattle.monitor.specs.Calls.{Requested};
 ghost use Rattle.monitor.specs.Lists.{Listed, asked, told};
 ghost use Rattle.monitor.specs.Questions.{Asked};
 ghost use Rattle.monitor.specs.Laws.{Laws, LawsAfter, LawsStay};
-use crate::listing::answer_list;
 use crate::asking::ask;
+use crate::listing::answer_list;
 use crate::record::Record;
 use crate::topic::Question;
 use block::Block;
@@ -24,7 +24,12 @@ use requests::answer;
 use start::start as start_blank;
 
 /// Starts a blank block from a start text. A block that is started already, and a text that is refused, leave it as it was.
-pub fn start<O: LevelOrder, R: HouseRule>(block: &mut Block, order: &O, rule: &R, text: &[u8]) -> Answer
+pub fn start<O: LevelOrder, R: HouseRule>(
+    block: &mut Block,
+    order: &O,
+    rule: &R,
+    text: &[u8],
+) -> Answer
     ensures outcome { λ a. ⌜ Start (meaning (now (order .entry))) (answers (now (rule .entry))) (now (block .entry)) (now (text .entry)) a (now (block .exit)) ⌝ }
     ensures begins { λ a. ⌜ (a ≡ Answer.Accepted → Laws (meaning (now (order .entry))) (answers (now (rule .entry))) (now (text .entry)) [] [] (now (block .exit))) ⌝ }
     ensures laws { λ a. ⌜ LawsStay (meaning (now (order .entry))) (answers (now (rule .entry))) (now (block .entry)) (now (block .exit)) ⌝ }
@@ -32,7 +37,12 @@ pub fn start<O: LevelOrder, R: HouseRule>(block: &mut Block, order: &O, rule: &R
     start_blank(block, order, rule, text)
 }
 
-fn answer_one<O: LevelOrder, R: HouseRule>(block: &mut Block, order: &O, rule: &R, q: &Request) -> Answer
+fn answer_one<O: LevelOrder, R: HouseRule>(
+    block: &mut Block,
+    order: &O,
+    rule: &R,
+    q: &Request,
+) -> Answer
     ensures { λ a. ⌜ Requested (meaning (now (order .entry))) (answers (now (rule .entry))) (now (block .entry)) (now (q .entry)) a (now (block .exit)) ⌝ }
 {
     if !block.started {
@@ -42,7 +52,12 @@ fn answer_one<O: LevelOrder, R: HouseRule>(block: &mut Block, order: &O, rule: &
 }
 
 /// Answers a request. A blank block, and a request that is refused, leave the block as it was.
-pub fn request<O: LevelOrder, R: HouseRule>(block: &mut Block, order: &O, rule: &R, q: &Request) -> Answer
+pub fn request<O: LevelOrder, R: HouseRule>(
+    block: &mut Block,
+    order: &O,
+    rule: &R,
+    q: &Request,
+) -> Answer
     ensures outcome { λ a. ⌜ Requested (meaning (now (order .entry))) (answers (now (rule .entry))) (now (block .entry)) (now (q .entry)) a (now (block .exit)) ⌝ }
     ensures laws { λ a. ⌜ LawsAfter (meaning (now (order .entry))) (answers (now (rule .entry))) (now (block .entry)) (now (q .entry) ∷ []) (a ∷ []) (now (block .exit)) ⌝ }
 {
@@ -51,7 +66,12 @@ pub fn request<O: LevelOrder, R: HouseRule>(block: &mut Block, order: &O, rule: 
 
 /// Answers a list of up to 1,024 records in turn, like single requests, each answer in its place. A list that is refused is
 /// left as it was, and so is the block.
-pub fn list<O: LevelOrder, R: HouseRule>(block: &mut Block, order: &O, rule: &R, records: &mut [Record]) -> Answer
+pub fn list<O: LevelOrder, R: HouseRule>(
+    block: &mut Block,
+    order: &O,
+    rule: &R,
+    records: &mut [Record],
+) -> Answer
     ensures outcome { λ a. ⌜ Listed (meaning (now (order .entry))) (answers (now (rule .entry))) (now (block .entry)) (now (records .entry)) a (now (records .exit)) (now (block .exit)) ⌝ }
     ensures laws { λ a. ⌜ LawsAfter (meaning (now (order .entry))) (answers (now (rule .entry))) (now (block .entry)) (asked a (now (records .entry))) (told a (now (records .exit))) (now (block .exit)) ⌝ }
 {

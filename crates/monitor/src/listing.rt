@@ -14,7 +14,12 @@ use requests::answer;
 const LONGEST: usize = 1024;
 
 /// Answers the record's request, in its place.
-fn answer_in_place<O: LevelOrder, R: HouseRule>(block: &mut Block, order: &O, rule: &R, entry: &mut Record)
+fn answer_in_place<O: LevelOrder, R: HouseRule>(
+    block: &mut Block,
+    order: &O,
+    rule: &R,
+    entry: &mut Record,
+)
     ensures stays { λ _. ⌜ now (entry .exit) .request ≡ now (entry .entry) .request ⌝ }
     ensures answered { λ _. ⌜ Answered (meaning (now (order .entry))) (answers (now (rule .entry))) (now (block .entry)) (now (entry .entry) .request) (now (entry .exit) .answer) (now (block .exit)) ⌝ }
 {
@@ -22,7 +27,12 @@ fn answer_in_place<O: LevelOrder, R: HouseRule>(block: &mut Block, order: &O, ru
 }
 
 /// Answers the records in turn, each in its place.
-fn answer_each<O: LevelOrder, R: HouseRule>(block: &mut Block, order: &O, rule: &R, records: &mut [Record])
+fn answer_each<O: LevelOrder, R: HouseRule>(
+    block: &mut Block,
+    order: &O,
+    rule: &R,
+    records: &mut [Record],
+)
     ensures { λ _. ⌜ InTurn (meaning (now (order .entry))) (answers (now (rule .entry))) (now (block .entry)) (now (records .entry)) (now (records .exit)) (now (block .exit)) ⌝ }
 {
     for entry in records.iter_mut() {
@@ -32,7 +42,12 @@ fn answer_each<O: LevelOrder, R: HouseRule>(block: &mut Block, order: &O, rule: 
 
 /// Answers a list of up to 1,024 records in turn, like single requests, each answer in its place. A refused list is left as
 /// it was, and so is the block.
-pub fn answer_list<O: LevelOrder, R: HouseRule>(block: &mut Block, order: &O, rule: &R, records: &mut [Record]) -> Answer
+pub fn answer_list<O: LevelOrder, R: HouseRule>(
+    block: &mut Block,
+    order: &O,
+    rule: &R,
+    records: &mut [Record],
+) -> Answer
     ensures { λ a. ⌜ Listed (meaning (now (order .entry))) (answers (now (rule .entry))) (now (block .entry)) (now (records .entry)) a (now (records .exit)) (now (block .exit)) ⌝ }
 {
     if !block.started {

@@ -12,7 +12,12 @@ use policy::HouseRule;
 use policy::LevelOrder;
 
 /// Answers a request on a started block: refused by the first need that fails, with nothing written, or else accepted.
-pub fn answer<O: LevelOrder, R: HouseRule>(block: &mut Block, order: &O, rule: &R, q: &Request) -> Answer
+pub fn answer<O: LevelOrder, R: HouseRule>(
+    block: &mut Block,
+    order: &O,
+    rule: &R,
+    q: &Request,
+) -> Answer
     ensures { λ a. ⌜ Answered (meaning (now (order .entry))) (answers (now (rule .entry))) (now (block .entry)) (now (q .entry)) a (now (block .exit)) ⌝ }
 {
     match check(block, order, rule, q) {

@@ -10,8 +10,6 @@ use crate::form::shaped;
 use crate::items::fresh;
 use crate::items::of_sort;
 use crate::rows::row;
-use flows::entitled;
-use flows::reaches;
 use crate::words::alone;
 use crate::words::free;
 use crate::words::lies_elsewhere;
@@ -21,6 +19,8 @@ use crate::words::strong;
 use crate::words::unlocked;
 use crate::words::vouched;
 use block::Block;
+use flows::entitled;
+use flows::reaches;
 use model::Fact;
 use model::Kind;
 use model::Mode;
@@ -31,7 +31,13 @@ use policy::LevelOrder;
 use policy::has_role;
 
 /// The needs that every kind begins with: its form, its two sessions and its items.
-pub fn opening<O: LevelOrder, R: HouseRule>(block: &Block, order: &O, rule: &R, q: &Request, kind: Kind) -> Result<(), Refusal>
+pub fn opening<O: LevelOrder, R: HouseRule>(
+    block: &Block,
+    order: &O,
+    rule: &R,
+    q: &Request,
+    kind: Kind,
+) -> Result<(), Refusal>
     ensures { λ r. ⌜ Judged (openingOf (meaning (now (order .entry))) (answers (now (rule .entry))) (state (now (block .entry))) (now (q .entry)) kind) r ⌝ }
 {
     let row = row(kind);
@@ -56,7 +62,12 @@ pub fn opening<O: LevelOrder, R: HouseRule>(block: &Block, order: &O, rule: &R, 
     Ok(())
 }
 
-fn take<O: LevelOrder, R: HouseRule>(block: &Block, order: &O, rule: &R, q: &Request) -> Result<(), Refusal>
+fn take<O: LevelOrder, R: HouseRule>(
+    block: &Block,
+    order: &O,
+    rule: &R,
+    q: &Request,
+) -> Result<(), Refusal>
     ensures { λ r. ⌜ Judged (furtherOf (meaning (now (order .entry))) (answers (now (rule .entry))) (state (now (block .entry))) (now (q .entry)) Kind.Take) r ⌝ }
 {
     let session = block.tables.session(q.x);
@@ -79,7 +90,12 @@ fn take<O: LevelOrder, R: HouseRule>(block: &Block, order: &O, rule: &R, q: &Req
     Ok(())
 }
 
-fn drop_role<O: LevelOrder, R: HouseRule>(block: &Block, order: &O, rule: &R, q: &Request) -> Result<(), Refusal>
+fn drop_role<O: LevelOrder, R: HouseRule>(
+    block: &Block,
+    order: &O,
+    rule: &R,
+    q: &Request,
+) -> Result<(), Refusal>
     ensures { λ r. ⌜ Judged (furtherOf (meaning (now (order .entry))) (answers (now (rule .entry))) (state (now (block .entry))) (now (q .entry)) Kind.Drop) r ⌝ }
 {
     let level = block.tables.role(q.r).level;
@@ -95,7 +111,12 @@ fn drop_role<O: LevelOrder, R: HouseRule>(block: &Block, order: &O, rule: &R, q:
     Ok(())
 }
 
-fn grant<O: LevelOrder, R: HouseRule>(block: &Block, order: &O, rule: &R, q: &Request) -> Result<(), Refusal>
+fn grant<O: LevelOrder, R: HouseRule>(
+    block: &Block,
+    order: &O,
+    rule: &R,
+    q: &Request,
+) -> Result<(), Refusal>
     ensures { λ r. ⌜ Judged (furtherOf (meaning (now (order .entry))) (answers (now (rule .entry))) (state (now (block .entry))) (now (q .entry)) Kind.Grant) r ⌝ }
 {
     let role = block.tables.role(q.r).level;
@@ -118,14 +139,21 @@ fn grant<O: LevelOrder, R: HouseRule>(block: &Block, order: &O, rule: &R, q: &Re
     Ok(())
 }
 
-fn revoke<O: LevelOrder, R: HouseRule>(block: &Block, order: &O, rule: &R, q: &Request) -> Result<(), Refusal>
+fn revoke<O: LevelOrder, R: HouseRule>(
+    block: &Block,
+    order: &O,
+    rule: &R,
+    q: &Request,
+) -> Result<(), Refusal>
     ensures { λ r. ⌜ Judged (furtherOf (meaning (now (order .entry))) (answers (now (rule .entry))) (state (now (block .entry))) (now (q .entry)) Kind.Revoke) r ⌝ }
 {
     let role = block.tables.role(q.r).level;
     if !managed(block, q.x, q.r) {
         return Err(Refusal::RoleDenied);
     }
-    if !block.stands(Fact::Access(q.x, q.y, Mode::Own)) || !block.stands(Fact::Right(q.r, q.y, Mode::of(q.m))) {
+    if !block.stands(Fact::Access(q.x, q.y, Mode::Own))
+        || !block.stands(Fact::Right(q.r, q.y, Mode::of(q.m)))
+    {
         return Err(Refusal::AccessMissing);
     }
     if !order.at_or_below(role, block.tables.item(q.x).level) {
@@ -138,7 +166,12 @@ fn revoke<O: LevelOrder, R: HouseRule>(block: &Block, order: &O, rule: &R, q: &R
 }
 
 /// An object and a container need the same.
-fn create<O: LevelOrder, R: HouseRule>(block: &Block, order: &O, rule: &R, q: &Request) -> Result<(), Refusal>
+fn create<O: LevelOrder, R: HouseRule>(
+    block: &Block,
+    order: &O,
+    rule: &R,
+    q: &Request,
+) -> Result<(), Refusal>
     ensures object { λ r. ⌜ Judged (furtherOf (meaning (now (order .entry))) (answers (now (rule .entry))) (state (now (block .entry))) (now (q .entry)) Kind.Object) r ⌝ }
     ensures container { λ r. ⌜ Judged (furtherOf (meaning (now (order .entry))) (answers (now (rule .entry))) (state (now (block .entry))) (now (q .entry)) Kind.Container) r ⌝ }
 {
@@ -162,7 +195,12 @@ fn create<O: LevelOrder, R: HouseRule>(block: &Block, order: &O, rule: &R, q: &R
     Ok(())
 }
 
-fn link<O: LevelOrder, R: HouseRule>(block: &Block, order: &O, rule: &R, q: &Request) -> Result<(), Refusal>
+fn link<O: LevelOrder, R: HouseRule>(
+    block: &Block,
+    order: &O,
+    rule: &R,
+    q: &Request,
+) -> Result<(), Refusal>
     ensures { λ r. ⌜ Judged (furtherOf (meaning (now (order .entry))) (answers (now (rule .entry))) (state (now (block .entry))) (now (q .entry)) Kind.Link) r ⌝ }
 {
     let container = block.tables.item(q.z).level;
@@ -181,7 +219,12 @@ fn link<O: LevelOrder, R: HouseRule>(block: &Block, order: &O, rule: &R, q: &Req
     Ok(())
 }
 
-fn unlink<O: LevelOrder, R: HouseRule>(block: &Block, order: &O, rule: &R, q: &Request) -> Result<(), Refusal>
+fn unlink<O: LevelOrder, R: HouseRule>(
+    block: &Block,
+    order: &O,
+    rule: &R,
+    q: &Request,
+) -> Result<(), Refusal>
     ensures { λ r. ⌜ Judged (furtherOf (meaning (now (order .entry))) (answers (now (rule .entry))) (state (now (block .entry))) (now (q .entry)) Kind.Unlink) r ⌝ }
 {
     if !free(block, q.y) {
@@ -202,7 +245,12 @@ fn unlink<O: LevelOrder, R: HouseRule>(block: &Block, order: &O, rule: &R, q: &R
     Ok(())
 }
 
-fn delete<O: LevelOrder, R: HouseRule>(block: &Block, order: &O, rule: &R, q: &Request) -> Result<(), Refusal>
+fn delete<O: LevelOrder, R: HouseRule>(
+    block: &Block,
+    order: &O,
+    rule: &R,
+    q: &Request,
+) -> Result<(), Refusal>
     ensures { λ r. ⌜ Judged (furtherOf (meaning (now (order .entry))) (answers (now (rule .entry))) (state (now (block .entry))) (now (q .entry)) Kind.Delete) r ⌝ }
 {
     if !free(block, q.y) {
@@ -223,7 +271,12 @@ fn delete<O: LevelOrder, R: HouseRule>(block: &Block, order: &O, rule: &R, q: &R
     Ok(())
 }
 
-fn open<O: LevelOrder, R: HouseRule>(block: &Block, order: &O, rule: &R, q: &Request) -> Result<(), Refusal>
+fn open<O: LevelOrder, R: HouseRule>(
+    block: &Block,
+    order: &O,
+    rule: &R,
+    q: &Request,
+) -> Result<(), Refusal>
     ensures { λ r. ⌜ Judged (furtherOf (meaning (now (order .entry))) (answers (now (rule .entry))) (state (now (block .entry))) (now (q .entry)) Kind.Open) r ⌝ }
 {
     let role = block.tables.role(q.r).level;
@@ -245,7 +298,12 @@ fn open<O: LevelOrder, R: HouseRule>(block: &Block, order: &O, rule: &R, q: &Req
     Ok(())
 }
 
-fn close<O: LevelOrder, R: HouseRule>(block: &Block, order: &O, rule: &R, q: &Request) -> Result<(), Refusal>
+fn close<O: LevelOrder, R: HouseRule>(
+    block: &Block,
+    order: &O,
+    rule: &R,
+    q: &Request,
+) -> Result<(), Refusal>
     ensures { λ r. ⌜ Judged (furtherOf (meaning (now (order .entry))) (answers (now (rule .entry))) (state (now (block .entry))) (now (q .entry)) Kind.Close) r ⌝ }
 {
     let session = block.tables.item(q.y).level;
@@ -261,7 +319,12 @@ fn close<O: LevelOrder, R: HouseRule>(block: &Block, order: &O, rule: &R, q: &Re
     Ok(())
 }
 
-fn gain<O: LevelOrder, R: HouseRule>(block: &Block, order: &O, rule: &R, q: &Request) -> Result<(), Refusal>
+fn gain<O: LevelOrder, R: HouseRule>(
+    block: &Block,
+    order: &O,
+    rule: &R,
+    q: &Request,
+) -> Result<(), Refusal>
     ensures { λ r. ⌜ Judged (furtherOf (meaning (now (order .entry))) (answers (now (rule .entry))) (state (now (block .entry))) (now (q .entry)) Kind.Gain) r ⌝ }
 {
     if !entitled(block, q.x, q.y, Mode::of(q.m)) {
@@ -277,7 +340,12 @@ fn gain<O: LevelOrder, R: HouseRule>(block: &Block, order: &O, rule: &R, q: &Req
     }
 }
 
-fn give_up<O: LevelOrder, R: HouseRule>(block: &Block, order: &O, rule: &R, q: &Request) -> Result<(), Refusal>
+fn give_up<O: LevelOrder, R: HouseRule>(
+    block: &Block,
+    order: &O,
+    rule: &R,
+    q: &Request,
+) -> Result<(), Refusal>
     ensures { λ r. ⌜ Judged (furtherOf (meaning (now (order .entry))) (answers (now (rule .entry))) (state (now (block .entry))) (now (q .entry)) Kind.GiveUp) r ⌝ }
 {
     if !block.stands(Fact::Access(q.x, q.y, Mode::of(q.m))) {
@@ -287,7 +355,13 @@ fn give_up<O: LevelOrder, R: HouseRule>(block: &Block, order: &O, rule: &R, q: &
 }
 
 /// The needs of the kind, behind those that every kind begins with.
-fn further<O: LevelOrder, R: HouseRule>(block: &Block, order: &O, rule: &R, q: &Request, kind: Kind) -> Result<(), Refusal>
+fn further<O: LevelOrder, R: HouseRule>(
+    block: &Block,
+    order: &O,
+    rule: &R,
+    q: &Request,
+    kind: Kind,
+) -> Result<(), Refusal>
     ensures { λ r. ⌜ Judged (furtherOf (meaning (now (order .entry))) (answers (now (rule .entry))) (state (now (block .entry))) (now (q .entry)) kind) r ⌝ }
 {
     match kind {
@@ -307,7 +381,12 @@ fn further<O: LevelOrder, R: HouseRule>(block: &Block, order: &O, rule: &R, q: &
 }
 
 /// The kind of a request whose needs are all met, or else the refusal of the first that fails.
-pub fn check<O: LevelOrder, R: HouseRule>(block: &Block, order: &O, rule: &R, q: &Request) -> Result<Kind, Refusal>
+pub fn check<O: LevelOrder, R: HouseRule>(
+    block: &Block,
+    order: &O,
+    rule: &R,
+    q: &Request,
+) -> Result<Kind, Refusal>
     ensures { λ r. ⌜ Checked (meaning (now (order .entry))) (answers (now (rule .entry))) (state (now (block .entry))) (now (q .entry)) r ⌝ }
 {
     let Some(kind) = Kind::of(q.k) else {

@@ -4,8 +4,8 @@ mod check;
 mod effect;
 mod form;
 mod items;
-mod words;
 mod rows;
+mod words;
 
 pub use answering::answer;
 pub use form::admits;

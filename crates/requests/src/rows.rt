@@ -7,11 +7,17 @@ use model::Sort;
 use model::Span;
 
 const ROLE: Span = Span::Within(0, 31);
+
 const ITEM: Span = Span::Within(1, 255);
+
 const ENTITY: Span = Span::Within(64, 255);
+
 const SESSION: Span = Span::Within(1, 63);
+
 const LEVEL: Span = Span::Within(0, 65535);
+
 const MARK: Span = Span::Within(0, 3);
+
 const NONE: Span = Span::Unused;
 
 /// A row for each kind, in the order of the kinds.

@@ -85,6 +85,7 @@ fn add_root(block: &mut Block, level: u32, mark: u32)
 }
 
 /// Adds what the line adds.
+#[rattlefmt::skip]
 fn plus(block: &mut Block, line: Line)
     requires { ⌜ inRange line ≡ true ⌝ }
     ensures { λ _. ⌜ Adds line (now (block .entry)) (now (block .exit)) ⌝ }
