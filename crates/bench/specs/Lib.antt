@@ -1,0 +1,4 @@
+pub mod Scripts
+pub mod Commands
+pub mod Standing
+pub mod Kept
