@@ -40,7 +40,7 @@ pub struct Replay {
 
 impl<'a> Bench<'a> {
     /// A bench with a blank block.
-    pub fn new(heap: Global) -> Bench<'a> {
+    pub(crate) fn new(heap: Global) -> Bench<'a> {
         Bench {
             block: Block::new(),
             text: &[],
@@ -49,7 +49,7 @@ impl<'a> Bench<'a> {
     }
 
     /// Starts the block, and keeps the text of an accepted start.
-    pub fn start<O: LevelOrder, R: HouseRule>(
+    pub(crate) fn start<O: LevelOrder, R: HouseRule>(
         &mut self,
         order: &O,
         rule: &R,
@@ -77,7 +77,7 @@ impl<'a> Bench<'a> {
     }
 
     /// Answers a request.
-    pub fn request<O: LevelOrder, R: HouseRule>(
+    pub(crate) fn request<O: LevelOrder, R: HouseRule>(
         &mut self,
         order: &O,
         rule: &R,
@@ -102,7 +102,7 @@ impl<'a> Bench<'a> {
     }
 
     /// Answers a list of requests, each in its place.
-    pub fn list<O: LevelOrder, R: HouseRule>(
+    pub(crate) fn list<O: LevelOrder, R: HouseRule>(
         &mut self,
         order: &O,
         rule: &R,
@@ -119,7 +119,7 @@ impl<'a> Bench<'a> {
     }
 
     /// Gives what was given to a fresh block of the same start.
-    pub fn replay<O: LevelOrder, R: HouseRule>(&self, order: &O, rule: &R) -> Replay
+    pub(crate) fn replay<O: LevelOrder, R: HouseRule>(&self, order: &O, rule: &R) -> Replay
         ensures { λ r. ⌜ r .count ≡ vec-len (now (self .entry) .given) ⌝ }
     {
         let mut fresh = Block::new();

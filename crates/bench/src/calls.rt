@@ -86,7 +86,8 @@ fn print_report(rt: &LibcRuntime, block: &Block, length: u32) -> io::Result<()> 
     match report(block, buffer.as_mut_slice()) {
         Ok(end) => {
             println!(rt, "report={end}")?;
-            rt.stdout().write_all(buffer.as_slice().get(0..end).unwrap_or(&[]))
+            rt.stdout()
+                .write_all(buffer.as_slice().get(0..end).unwrap_or(&[]))
         }
         Err(refusal) => print_refusal(rt, refusal),
     }
@@ -128,7 +129,7 @@ fn call<'a, O: LevelOrder, R: HouseRule>(
 }
 
 /// Makes and prints the calls of a script, one after another.
-pub fn run<'a, O: LevelOrder, R: HouseRule>(
+pub(crate) fn run<'a, O: LevelOrder, R: HouseRule>(
     rt: &LibcRuntime,
     order: &O,
     rule: &R,

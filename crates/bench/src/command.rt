@@ -64,7 +64,7 @@ fn numbers_of<const N: usize>(line: &[u8], key: &[u8]) -> Option<[u32; N]>
 }
 
 /// The request that a line says.
-pub fn request_of(line: &[u8]) -> Option<Request>
+pub(crate) fn request_of(line: &[u8]) -> Option<Request>
     ensures { λ r. ⌜ BySome r ((q : Asked) → Says (now (line .entry)) (Command.Request q) → ⊥) (λ q. Says (now (line .entry)) (Command.Request q)) ⌝ }
 {
     let [k, x, v, r, y, z, l, m] = request_numbers(line)?;
@@ -106,7 +106,7 @@ fn buffer_of(line: &[u8]) -> Option<u32>
 
 impl Command {
     /// The command that a line, without its byte 10, says.
-    pub fn of(line: &[u8]) -> Option<Command>
+    pub(crate) fn of(line: &[u8]) -> Option<Command>
         ensures { λ r. ⌜ BySome r ((c : Order) → Says (now (line .entry)) c → ⊥) (λ c. Says (now (line .entry)) c) ⌝ }
     {
         if same(line, b"start") {

@@ -19,7 +19,7 @@ use policy::HouseRule;
 use policy::LevelOrder;
 
 /// Whether a request gives, and takes nothing back.
-pub fn gives(q: &Request) -> bool
+pub(crate) fn gives(q: &Request) -> bool
     ensures { λ r. ⌜ r ≡ isGiving (kindOf (now (q .entry) .k)) ⌝ }
 {
     match Kind::of(q.k) {
@@ -37,7 +37,7 @@ pub fn gives(q: &Request) -> bool
 }
 
 /// Gives the requests one by one, and answers how many were accepted.
-pub fn give<O: LevelOrder, R: HouseRule>(
+pub(crate) fn give<O: LevelOrder, R: HouseRule>(
     block: &mut Block,
     order: &O,
     rule: &R,
@@ -103,7 +103,7 @@ fn row_stands(a: &Block, b: &Block, i: u32) -> bool
 }
 
 /// Every fact that stands in `a` stands in `b`, and every item that lives in `a` has the same level there.
-pub fn stands_in(a: &Block, b: &Block) -> bool
+pub(crate) fn stands_in(a: &Block, b: &Block) -> bool
     ensures { λ r. ⌜ (T r → StandsIn (state (now (a .entry))) (state (now (b .entry)))) ⌝ }
 {
     for i in 0..256 {

@@ -41,7 +41,7 @@ fn line_ends(text: &[u8]) -> usize
 
 impl<'a> Script<'a> {
     /// The script of these bytes, before its first line.
-    pub fn new(bytes: &'a [u8]) -> Script<'a> {
+    pub(crate) fn new(bytes: &'a [u8]) -> Script<'a> {
         Script {
             left: bytes,
             line: 0,
@@ -49,7 +49,7 @@ impl<'a> Script<'a> {
     }
 
     /// The next line, without its byte 10, which the last line may lack.
-    pub fn next_line(&mut self) -> Option<&'a [u8]>
+    pub(crate) fn next_line(&mut self) -> Option<&'a [u8]>
         ensures line { λ r. ⌜ BySome r (ahead (now (self .entry)) ≡ 0) (λ l. FirstLine (now (now (self .entry) .left)) (now l) (now (now (self .exit) .left))) ⌝ }
         ensures shorter { λ r. ⌜ BySome r (ahead (now (self .exit)) ≤ ahead (now (self .entry))) (λ _. ahead (now (self .exit)) < ahead (now (self .entry))) ⌝ }
     {
@@ -71,7 +71,7 @@ impl<'a> Script<'a> {
     }
 
     /// The next line, where one must stand.
-    pub fn expect_line(&mut self) -> Result<&'a [u8], Stop>
+    pub(crate) fn expect_line(&mut self) -> Result<&'a [u8], Stop>
         ensures { λ _. ⌜ ahead (now (self .exit)) ≤ ahead (now (self .entry)) ⌝ }
     {
         match self.next_line() {
@@ -81,7 +81,7 @@ impl<'a> Script<'a> {
     }
 
     /// The lines up to an empty one, which is taken off too, or up to the end.
-    pub fn start_text(&mut self) -> &'a [u8]
+    pub(crate) fn start_text(&mut self) -> &'a [u8]
         ensures { λ _. ⌜ ahead (now (self .exit)) ≤ ahead (now (self .entry)) ⌝ }
     {
         let text = self.left;
@@ -93,7 +93,7 @@ impl<'a> Script<'a> {
     }
 
     /// The line that was asked for last is at fault.
-    pub fn fault(&self) -> Stop {
+    pub(crate) fn fault(&self) -> Stop {
         Stop::Script(self.line)
     }
 }

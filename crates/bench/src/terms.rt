@@ -72,7 +72,7 @@ fn quota(numbers: &[u32]) -> Option<Terms> {
 
 impl Terms {
     /// The terms that a line, without its byte 10, says.
-    pub fn of(heap: Global, line: &[u8]) -> io::Result<Option<Terms>> {
+    pub(crate) fn of(heap: Global, line: &[u8]) -> io::Result<Option<Terms>> {
         if same(line, b"rule=separation") {
             return separation(heap, &[]);
         }

@@ -5,7 +5,7 @@ ghost use Rattle.std.specs.Options.{Cases as BySome};
 use text::part::cut;
 
 /// The next line, without its byte 10, and what is behind it; the last line may lack that byte.
-pub fn next_line<'a>(text: &'a [u8]) -> Option<(&'a [u8], &'a [u8])>
+pub(crate) fn next_line<'a>(text: &'a [u8]) -> Option<(&'a [u8], &'a [u8])>
     ensures { λ r. ⌜ BySome r (Unit {0}) (λ p. length (now (p .1)) < length (now (text .entry))) ⌝ }
 {
     if text.is_empty() {
@@ -30,7 +30,7 @@ fn empty_line(text: &[u8]) -> usize
 }
 
 /// The lines before the first empty line, and what is behind that line.
-pub fn split<'a>(input: &'a [u8]) -> (&'a [u8], &'a [u8]) {
+pub(crate) fn split<'a>(input: &'a [u8]) -> (&'a [u8], &'a [u8]) {
     let at = empty_line(input);
     if at < input.len() {
         (&input[0..at], &input[at + 1..])

@@ -78,7 +78,7 @@ fn acts(relations: &mut Relations, tables: &Tables, s: usize) -> bool
 }
 
 /// The same, for every session.
-pub fn acts_all(relations: &mut Relations, tables: &Tables) -> bool
+pub(crate) fn acts_all(relations: &mut Relations, tables: &Tables) -> bool
     ensures { λ r. ⌜ Spread (now (tables .entry)) (now (relations .entry)) (now (relations .exit)) r (λ P. (s : ℕ) → Session s → Unguarded (cardsOf (now (tables .entry))) s → Acts s P) ⌝ }
 {
     let mut grew = false;

@@ -99,7 +99,7 @@ fn controlled(relations: &mut Relations, tables: &Tables, t: usize) -> bool
 }
 
 /// The same, for every session.
-pub fn controlled_all(relations: &mut Relations, tables: &Tables) -> bool
+pub(crate) fn controlled_all(relations: &mut Relations, tables: &Tables) -> bool
     ensures { λ r. ⌜ Spread (now (tables .entry)) (now (relations .entry)) (now (relations .exit)) r (λ P. (t : ℕ) → Session t → Controlled (cardsOf (now (tables .entry))) (programOf (now (tables .entry))) t P) ⌝ }
 {
     let mut grew = false;
@@ -125,7 +125,7 @@ fn onward_through(relations: &mut Relations, t: usize) -> bool
 }
 
 /// Control that goes on. The session between is the outer loop, so that one pass mostly closes control.
-pub fn onward_all(relations: &mut Relations) -> bool
+pub(crate) fn onward_all(relations: &mut Relations) -> bool
     ensures { λ r. ⌜ ((tables : Records) → Spread tables (now (relations .entry)) (now (relations .exit)) r (λ P. (t : ℕ) → t < 64 → (s : ℕ) → s < 64 → Onward s t P)) ⌝ }
 {
     let mut grew = false;

@@ -48,7 +48,7 @@ fn passes<O: LevelOrder>(block: &Block, order: &O, x: u32, c: u32) -> bool
 }
 
 /// The containers that pass for `x`.
-pub fn passing<O: LevelOrder>(block: &Block, order: &O, x: u32) -> Set256
+pub(crate) fn passing<O: LevelOrder>(block: &Block, order: &O, x: u32) -> Set256
     ensures { λ r. ⌜ ((c : ℕ) → c < 256 → Decides (in256 r c) (Passes (O·LevelOrder .meaning (now (order .entry))) (state (now (block .entry))) x c)) ⌝ }
 {
     let mut all = Set256::new();

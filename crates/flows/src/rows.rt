@@ -12,7 +12,7 @@ ghost use Rattle.block.specs.Reading.{standing};
 ghost use Rattle.flows.specs.Spread.{Has, Joined, Row};
 
 /// Whether information flows from `a` to `b`.
-pub fn flows_to(relations: &Relations, a: usize, b: usize) -> bool
+pub(crate) fn flows_to(relations: &Relations, a: usize, b: usize) -> bool
     requires a { ⌜ a < 256 ⌝ }
     requires b { ⌜ b < 256 ⌝ }
     ensures { λ r. ⌜ ((tables : Records) → r ≡ standing tables (now (relations .entry)) (Flow a b)) ⌝ }
@@ -21,7 +21,7 @@ pub fn flows_to(relations: &Relations, a: usize, b: usize) -> bool
 }
 
 /// Whether the session `s` controls `t`.
-pub fn controls(relations: &Relations, s: usize, t: usize) -> bool
+pub(crate) fn controls(relations: &Relations, s: usize, t: usize) -> bool
     requires s { ⌜ s < 64 ⌝ }
     requires t { ⌜ t < 64 ⌝ }
     ensures { λ r. ⌜ ((tables : Records) → r ≡ standing tables (now (relations .entry)) (Control s t)) ⌝ }
@@ -30,7 +30,7 @@ pub fn controls(relations: &Relations, s: usize, t: usize) -> bool
 }
 
 /// Whether anything flows from `b`: then an empty set grows by its row.
-pub fn flows_any(relations: &Relations, b: usize) -> bool
+pub(crate) fn flows_any(relations: &Relations, b: usize) -> bool
     requires { ⌜ b < 256 ⌝ }
     ensures { λ r. ⌜ ((tables : Records) → When r ((c : ℕ) × Has tables (now (relations .entry)) (Flow b c)) ((c : ℕ) → Has tables (now (relations .entry)) (Flow b c) → ⊥)) ⌝ }
 {
@@ -39,7 +39,7 @@ pub fn flows_any(relations: &Relations, b: usize) -> bool
 }
 
 /// Whether the session `s` controls any.
-pub fn controls_any(relations: &Relations, s: usize) -> bool
+pub(crate) fn controls_any(relations: &Relations, s: usize) -> bool
     requires { ⌜ s < 64 ⌝ }
     ensures { λ r. ⌜ ((tables : Records) → When r ((t : ℕ) × Has tables (now (relations .entry)) (Control s t)) ((t : ℕ) → Has tables (now (relations .entry)) (Control s t) → ⊥)) ⌝ }
 {
@@ -48,7 +48,7 @@ pub fn controls_any(relations: &Relations, s: usize) -> bool
 }
 
 /// Adds flows from `a` to each item of `row`, and says whether one is new.
-pub fn add_flows(relations: &mut Relations, a: usize, row: &Set256) -> bool
+pub(crate) fn add_flows(relations: &mut Relations, a: usize, row: &Set256) -> bool
     requires { ⌜ a < 256 ⌝ }
     ensures { λ r. ⌜ ((tables : Records) → Joined tables (now (relations .entry)) (now (relations .exit)) r (Row Flow 256 a (in256 (now (row .entry))))) ⌝ }
 {
@@ -56,7 +56,7 @@ pub fn add_flows(relations: &mut Relations, a: usize, row: &Set256) -> bool
 }
 
 /// Adds a flow from `a` to `b`, and says whether it is new.
-pub fn add_flow(relations: &mut Relations, a: usize, b: usize) -> bool
+pub(crate) fn add_flow(relations: &mut Relations, a: usize, b: usize) -> bool
     requires a { ⌜ a < 256 ⌝ }
     requires b { ⌜ b < 256 ⌝ }
     ensures { λ r. ⌜ ((tables : Records) → Joined tables (now (relations .entry)) (now (relations .exit)) r (λ f. f ≡ Flow a b)) ⌝ }
@@ -65,7 +65,7 @@ pub fn add_flow(relations: &mut Relations, a: usize, b: usize) -> bool
 }
 
 /// Gives the session `s` control of each session of `row`, and says whether one is new.
-pub fn add_controls(relations: &mut Relations, s: usize, row: &Set64) -> bool
+pub(crate) fn add_controls(relations: &mut Relations, s: usize, row: &Set64) -> bool
     requires { ⌜ s < 64 ⌝ }
     ensures { λ r. ⌜ ((tables : Records) → Joined tables (now (relations .entry)) (now (relations .exit)) r (Row Control 64 s (in64 (now (row .entry))))) ⌝ }
 {
@@ -73,7 +73,7 @@ pub fn add_controls(relations: &mut Relations, s: usize, row: &Set64) -> bool
 }
 
 /// Gives the session `s` control of `t`, and says whether that is new.
-pub fn add_control(relations: &mut Relations, s: usize, t: usize) -> bool
+pub(crate) fn add_control(relations: &mut Relations, s: usize, t: usize) -> bool
     requires s { ⌜ s < 64 ⌝ }
     requires t { ⌜ t < 64 ⌝ }
     ensures { λ r. ⌜ ((tables : Records) → Joined tables (now (relations .entry)) (now (relations .exit)) r (λ f. f ≡ Control s t)) ⌝ }

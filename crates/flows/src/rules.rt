@@ -30,7 +30,7 @@ fn has_access(tables: &Tables, s: usize, e: usize, mode: Mode) -> bool
 }
 
 /// Whether the item is alive.
-pub fn lives(tables: &Tables, i: usize) -> bool
+pub(crate) fn lives(tables: &Tables, i: usize) -> bool
     requires { ⌜ i < 256 ⌝ }
     ensures { λ r. ⌜ ((rows : Rows) → r ≡ standing (now (tables .entry)) rows (Lives i)) ⌝ }
 {
@@ -49,7 +49,7 @@ fn has_through(relations: &Relations, tables: &Tables, s: usize, e: usize, mode:
 }
 
 /// A live session controls itself.
-pub fn itself(relations: &mut Relations, tables: &Tables, s: usize) -> bool
+pub(crate) fn itself(relations: &mut Relations, tables: &Tables, s: usize) -> bool
     requires { ⌜ Session s ⌝ }
     ensures { λ r. ⌜ Spread (now (tables .entry)) (now (relations .entry)) (now (relations .exit)) r (Itself s) ⌝ }
 {
@@ -60,7 +60,7 @@ pub fn itself(relations: &mut Relations, tables: &Tables, s: usize) -> bool
 }
 
 /// It controls each session that it has own access to.
-pub fn owner(relations: &mut Relations, tables: &Tables, s: usize, t: usize) -> bool
+pub(crate) fn owner(relations: &mut Relations, tables: &Tables, s: usize, t: usize) -> bool
     requires s { ⌜ Session s ⌝ }
     requires t { ⌜ Session t ⌝ }
     ensures { λ r. ⌜ Spread (now (tables .entry)) (now (relations .entry)) (now (relations .exit)) r (Owner s t) ⌝ }
@@ -72,7 +72,7 @@ pub fn owner(relations: &mut Relations, tables: &Tables, s: usize, t: usize) -> 
 }
 
 /// Who controls `t` controls all that `t` controls.
-pub fn onward(relations: &mut Relations, s: usize, t: usize) -> bool
+pub(crate) fn onward(relations: &mut Relations, s: usize, t: usize) -> bool
     requires s { ⌜ s < 64 ⌝ }
     requires t { ⌜ t < 64 ⌝ }
     ensures { λ r. ⌜ ((tables : Records) → Spread tables (now (relations .entry)) (now (relations .exit)) r (Onward s t)) ⌝ }
@@ -85,7 +85,7 @@ pub fn onward(relations: &mut Relations, s: usize, t: usize) -> bool
 }
 
 /// What an unguarded session controls writes for it.
-pub fn writing(relations: &mut Relations, tables: &Tables, s: usize, e: usize) -> bool
+pub(crate) fn writing(relations: &mut Relations, tables: &Tables, s: usize, e: usize) -> bool
     requires s { ⌜ Unguarded (cardsOf (now tables)) s ⌝ }
     requires e { ⌜ e < 256 ⌝ }
     ensures { λ r. ⌜ Spread (now (tables .entry)) (now (relations .entry)) (now (relations .exit)) r (Writing s e) ⌝ }
@@ -97,7 +97,7 @@ pub fn writing(relations: &mut Relations, tables: &Tables, s: usize, e: usize) -
 }
 
 /// It reads for it, too.
-pub fn reading(relations: &mut Relations, tables: &Tables, s: usize, e: usize) -> bool
+pub(crate) fn reading(relations: &mut Relations, tables: &Tables, s: usize, e: usize) -> bool
     requires s { ⌜ Unguarded (cardsOf (now tables)) s ⌝ }
     requires e { ⌜ e < 256 ⌝ }
     ensures { λ r. ⌜ Spread (now (tables .entry)) (now (relations .entry)) (now (relations .exit)) r (Reading s e) ⌝ }
@@ -109,7 +109,7 @@ pub fn reading(relations: &mut Relations, tables: &Tables, s: usize, e: usize) -
 }
 
 /// Flows go on.
-pub fn passing(relations: &mut Relations, a: usize, b: usize) -> bool
+pub(crate) fn passing(relations: &mut Relations, a: usize, b: usize) -> bool
     requires a { ⌜ a < 256 ⌝ }
     requires b { ⌜ b < 256 ⌝ }
     ensures { λ r. ⌜ ((tables : Records) → Spread tables (now (relations .entry)) (now (relations .exit)) r (Passing a b)) ⌝ }
@@ -122,7 +122,7 @@ pub fn passing(relations: &mut Relations, a: usize, b: usize) -> bool
 }
 
 /// A flow from `a` to `b` gives the session `s` control of `t`, where that follows.
-pub fn by_flow(relations: &mut Relations, a: usize, b: usize, s: usize, t: usize) -> bool
+pub(crate) fn by_flow(relations: &mut Relations, a: usize, b: usize, s: usize, t: usize) -> bool
     requires a { ⌜ a < 256 ⌝ }
     requires b { ⌜ b < 256 ⌝ }
     requires s { ⌜ s < 64 ⌝ }
@@ -136,7 +136,7 @@ pub fn by_flow(relations: &mut Relations, a: usize, b: usize, s: usize, t: usize
 }
 
 /// An unguarded session shares the flows from what it controls.
-pub fn outward(relations: &mut Relations, s: usize, t: usize) -> bool
+pub(crate) fn outward(relations: &mut Relations, s: usize, t: usize) -> bool
     requires s { ⌜ s < 64 ⌝ }
     requires t { ⌜ t < 64 ⌝ }
     ensures { λ r. ⌜ ((tables : Records) → Unguarded (cardsOf tables) s → Spread tables (now (relations .entry)) (now (relations .exit)) r (Outward s t)) ⌝ }
@@ -149,7 +149,7 @@ pub fn outward(relations: &mut Relations, s: usize, t: usize) -> bool
 }
 
 /// And the flows to it.
-pub fn inward(relations: &mut Relations, s: usize, e: usize) -> bool
+pub(crate) fn inward(relations: &mut Relations, s: usize, e: usize) -> bool
     requires s { ⌜ s < 64 ⌝ }
     requires e { ⌜ e < 256 ⌝ }
     ensures { λ r. ⌜ ((tables : Records) → Unguarded (cardsOf tables) s → Spread tables (now (relations .entry)) (now (relations .exit)) r (Inward s e)) ⌝ }

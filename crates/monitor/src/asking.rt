@@ -90,7 +90,7 @@ fn holds<O: LevelOrder>(block: &Block, order: &O, topic: Topic, a: u32, b: u32, 
 }
 
 /// Answers a question; an item that is not alive gives no.
-pub fn ask<O: LevelOrder>(block: &Block, order: &O, q: &Question) -> Result<bool, Refusal>
+pub(crate) fn ask<O: LevelOrder>(block: &Block, order: &O, q: &Question) -> Result<bool, Refusal>
     ensures { λ r. ⌜ Asked (meaning (now (order .entry))) (now (block .entry)) (now (q .entry)) r ⌝ }
 {
     if !block.started {

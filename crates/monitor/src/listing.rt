@@ -42,7 +42,7 @@ fn answer_each<O: LevelOrder, R: HouseRule>(
 
 /// Answers a list of up to 1,024 records in turn, like single requests, each answer in its place. A refused list is left as
 /// it was, and so is the block.
-pub fn answer_list<O: LevelOrder, R: HouseRule>(
+pub(crate) fn answer_list<O: LevelOrder, R: HouseRule>(
     block: &mut Block,
     order: &O,
     rule: &R,

@@ -31,7 +31,7 @@ use policy::LevelOrder;
 use policy::has_role;
 
 /// The needs that every kind begins with: its form, its two sessions and its items.
-pub fn opening<O: LevelOrder, R: HouseRule>(
+pub(crate) fn opening<O: LevelOrder, R: HouseRule>(
     block: &Block,
     order: &O,
     rule: &R,
@@ -381,7 +381,7 @@ fn further<O: LevelOrder, R: HouseRule>(
 }
 
 /// The kind of a request whose needs are all met, or else the refusal of the first that fails.
-pub fn check<O: LevelOrder, R: HouseRule>(
+pub(crate) fn check<O: LevelOrder, R: HouseRule>(
     block: &Block,
     order: &O,
     rule: &R,

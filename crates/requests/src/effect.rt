@@ -64,7 +64,7 @@ fn live(container: bool, level: u32, mark: u32) -> Item
 }
 
 /// The effect of a request of the kind, whose numbers are in their ranges.
-pub fn carry_out(block: &mut Block, q: &Request, kind: Kind)
+pub(crate) fn carry_out(block: &mut Block, q: &Request, kind: Kind)
     requires { ⌜ T (isRanged (rowOf kind) (now q)) ⌝ }
     ensures { λ _. ⌜ Does (now (q .entry)) kind (now (block .entry)) (now (block .exit)) ⌝ }
 {

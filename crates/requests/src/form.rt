@@ -45,7 +45,7 @@ pub fn suits(span: Span, y: u32, m: u32) -> bool
 }
 
 /// A used level is known.
-pub fn level_known<O: LevelOrder>(order: &O, span: Span, l: u32) -> bool
+pub(crate) fn level_known<O: LevelOrder>(order: &O, span: Span, l: u32) -> bool
     ensures { λ r. ⌜ r ≡ isKnown (O·LevelOrder .meaning (now (order .entry))) span l ⌝ }
 {
     match span {
@@ -55,14 +55,14 @@ pub fn level_known<O: LevelOrder>(order: &O, span: Span, l: u32) -> bool
 }
 
 /// Each number that the kind does not use is 0.
-pub fn shaped(row: &Row, q: &Request) -> bool
+pub(crate) fn shaped(row: &Row, q: &Request) -> bool
     ensures { λ r. ⌜ r ≡ isShaped (now (row .entry)) (now (q .entry)) ⌝ }
 {
     idle(row.r, q.r) && idle(row.y, q.y) && idle(row.z, q.z) && idle(row.l, q.l) && idle(row.m, q.m)
 }
 
 /// Each number that the kind uses is in its range.
-pub fn ranged(row: &Row, q: &Request) -> bool
+pub(crate) fn ranged(row: &Row, q: &Request) -> bool
     ensures { λ r. ⌜ r ≡ isRanged (now (row .entry)) (now (q .entry)) ⌝ }
 {
     between(1, 63, q.x)

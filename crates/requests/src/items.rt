@@ -7,7 +7,7 @@ use model::Fact;
 use model::Sort;
 
 /// The item is of the sort.
-pub fn of_sort(block: &Block, sort: Sort, n: u32) -> bool
+pub(crate) fn of_sort(block: &Block, sort: Sort, n: u32) -> bool
     ensures { λ r. ⌜ r ≡ isOfSort (state (now (block .entry))) sort n ⌝ }
 {
     match sort {
@@ -19,7 +19,7 @@ pub fn of_sort(block: &Block, sort: Sort, n: u32) -> bool
 }
 
 /// A new item's number was never used.
-pub fn fresh(block: &Block, sort: Sort, n: u32) -> bool
+pub(crate) fn fresh(block: &Block, sort: Sort, n: u32) -> bool
     ensures { λ r. ⌜ r ≡ isFresh (state (now (block .entry))) sort n ⌝ }
 {
     match sort {

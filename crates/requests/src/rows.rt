@@ -52,7 +52,7 @@ const ROWS: [Row; 13] = [
 ];
 
 /// The row of a kind.
-pub fn row(kind: Kind) -> Row
+pub(crate) fn row(kind: Kind) -> Row
     ensures { λ r. ⌜ r ≡ rowOf kind ⌝ }
 {
     ROWS[kind as usize]

@@ -23,7 +23,7 @@ fn manages(block: &Block, x: u32, role: u32, a: u32) -> bool
 }
 
 /// Session `x` holds an administrative role that manages `role`.
-pub fn managed(block: &Block, x: u32, role: u32) -> bool
+pub(crate) fn managed(block: &Block, x: u32, role: u32) -> bool
     ensures { λ r. ⌜ Tells r (Managed (state (now (block .entry))) x role) ⌝ }
 {
     for a in 0..32 {
@@ -35,7 +35,7 @@ pub fn managed(block: &Block, x: u32, role: u32) -> bool
 }
 
 /// Session `x` has read access to the key of the role, if it has one.
-pub fn unlocked(block: &Block, x: u32, role: u32) -> bool
+pub(crate) fn unlocked(block: &Block, x: u32, role: u32) -> bool
     ensures { λ r. ⌜ Tells r (Unlocked (state (now (block .entry))) x role) ⌝ }
 {
     let key = block.tables.role(role).key;
@@ -43,7 +43,7 @@ pub fn unlocked(block: &Block, x: u32, role: u32) -> bool
 }
 
 /// If the level is the top, the voucher has write access to the gate.
-pub fn vouched<O: LevelOrder>(block: &Block, order: &O, v: u32, level: u32) -> bool
+pub(crate) fn vouched<O: LevelOrder>(block: &Block, order: &O, v: u32, level: u32) -> bool
     ensures { λ r. ⌜ Tells r (Vouched (O·LevelOrder .meaning (now (order .entry))) (state (now (block .entry))) v level) ⌝ }
 {
     level != order.top() || block.stands(Fact::Access(v, block.tables.gate, Mode::Write))
@@ -76,7 +76,7 @@ fn is_role_key(block: &Block, y: u32) -> bool
 }
 
 /// `y` is neither the root nor the gate, and no key.
-pub fn free(block: &Block, y: u32) -> bool
+pub(crate) fn free(block: &Block, y: u32) -> bool
     ensures { λ r. ⌜ Tells r (Free (state (now (block .entry)) .cards) y) ⌝ }
 {
     if y == 64 || y == block.tables.gate {
@@ -95,7 +95,7 @@ pub fn free(block: &Block, y: u32) -> bool
 }
 
 /// A container other than `z` holds `y`.
-pub fn lies_elsewhere(block: &Block, z: u32, y: u32) -> bool
+pub(crate) fn lies_elsewhere(block: &Block, z: u32, y: u32) -> bool
     ensures { λ r. ⌜ Tells r (Elsewhere (state (now (block .entry))) z y) ⌝ }
 {
     for c in 0..256 {
@@ -119,7 +119,7 @@ fn is_empty(block: &Block, y: u32) -> bool
 }
 
 /// No container but `z` holds `y`, and `y` holds nothing.
-pub fn alone(block: &Block, z: u32, y: u32) -> bool
+pub(crate) fn alone(block: &Block, z: u32, y: u32) -> bool
     ensures { λ r. ⌜ Tells r (Alone (state (now (block .entry))) z y) ⌝ }
 {
     if lies_elsewhere(block, z, y) {
@@ -132,7 +132,7 @@ pub fn alone(block: &Block, z: u32, y: u32) -> bool
 }
 
 /// Rights and accesses to write and to own carry a level condition.
-pub fn strong(mode: Mode) -> bool
+pub(crate) fn strong(mode: Mode) -> bool
     ensures { λ r. ⌜ r ≡ isStrong mode ⌝ }
 {
     match mode {
@@ -142,7 +142,7 @@ pub fn strong(mode: Mode) -> bool
 }
 
 /// Session `x` has write access to `z`, and a role that it holds owns `y` if `z` is shared.
-pub fn may_empty(block: &Block, x: u32, z: u32, y: u32) -> bool
+pub(crate) fn may_empty(block: &Block, x: u32, z: u32, y: u32) -> bool
     ensures { λ r. ⌜ Tells r (MayEmpty (state (now (block .entry))) x z y) ⌝ }
 {
     if !block.stands(Fact::Access(x, z, Mode::Write)) {

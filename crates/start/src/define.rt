@@ -164,7 +164,7 @@ fn plus(block: &mut Block, line: Line)
 }
 
 /// Adds what the line defines; the first line of a number counts.
-pub fn define(block: &mut Block, line: Line)
+pub(crate) fn define(block: &mut Block, line: Line)
     requires { ⌜ inRange line ≡ true ⌝ }
     ensures state { λ _. ⌜ state (now (block .exit)) ≡ withLine line (state (now (block .entry))) ⌝ }
     ensures started { λ _. ⌜ now (block .exit) .started ≡ now (block .entry) .started ⌝ }

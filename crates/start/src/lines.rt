@@ -264,7 +264,7 @@ fn access<O: LevelOrder, R: HouseRule>(
 
 /// The needs of a line, where all lines define `all`, and those before it `earlier`.
 #[rattlefmt::skip]
-pub fn judge<O: LevelOrder, R: HouseRule>(
+pub(crate) fn judge<O: LevelOrder, R: HouseRule>(
     order: &O,
     rule: &R,
     all: &Block,

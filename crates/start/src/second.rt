@@ -17,7 +17,7 @@ use text::walk::begin;
 use text::walk::step;
 
 /// Fills an empty block with what the lines of an accepted text define.
-pub fn fill(text: &[u8], all: &mut Block)
+pub(crate) fn fill(text: &[u8], all: &mut Block)
     ensures state { λ _. ⌜ ((ls : List Line) → Accepted (now (text .entry)) ls → state (now (all .entry)) ≡ empty → state (now (all .exit)) ≡ listed ls) ⌝ }
     ensures started { λ _. ⌜ now (all .exit) .started ≡ now (all .entry) .started ⌝ }
 {
@@ -28,7 +28,7 @@ pub fn fill(text: &[u8], all: &mut Block)
 }
 
 /// Tries the needs of each line, where all lines define `all`; `earlier` begins empty.
-pub fn second_reading<O: LevelOrder, R: HouseRule>(
+pub(crate) fn second_reading<O: LevelOrder, R: HouseRule>(
     order: &O,
     rule: &R,
     text: &[u8],

@@ -11,7 +11,7 @@ use policy::LevelOrder;
 use policy::has_role;
 
 /// An object is defined under the number.
-pub fn is_object(all: &Block, n: u32) -> bool
+pub(crate) fn is_object(all: &Block, n: u32) -> bool
     ensures { λ r. ⌜ r ≡ isObject (state (now (all .entry))) n ⌝ }
 {
     let item = all.tables.item(n);
@@ -19,7 +19,7 @@ pub fn is_object(all: &Block, n: u32) -> bool
 }
 
 /// A container is defined under the number.
-pub fn is_container(all: &Block, n: u32) -> bool
+pub(crate) fn is_container(all: &Block, n: u32) -> bool
     ensures { λ r. ⌜ r ≡ isContainer (state (now (all .entry))) n ⌝ }
 {
     let item = all.tables.item(n);
@@ -27,7 +27,7 @@ pub fn is_container(all: &Block, n: u32) -> bool
 }
 
 /// A key or a program is none, or an object.
-pub fn is_object_or_none(all: &Block, n: u32) -> bool
+pub(crate) fn is_object_or_none(all: &Block, n: u32) -> bool
     ensures { λ r. ⌜ Tells r (Object? (state (now (all .entry))) n) ⌝ }
 {
     n == 0 || is_object(all, n)
@@ -42,7 +42,7 @@ fn is_ordinary(all: &Block, n: u32) -> bool
 }
 
 /// Each role of the set is defined.
-pub fn are_defined(all: &Block, set: u32) -> bool
+pub(crate) fn are_defined(all: &Block, set: u32) -> bool
     ensures { λ r. ⌜ Tells r (Each set (λ n. state (now (all .entry)) .cards .roles n .defined)) ⌝ }
 {
     for n in 0..32 {
@@ -54,7 +54,7 @@ pub fn are_defined(all: &Block, set: u32) -> bool
 }
 
 /// Each role of the set is an ordinary one.
-pub fn are_ordinary(all: &Block, set: u32) -> bool
+pub(crate) fn are_ordinary(all: &Block, set: u32) -> bool
     ensures { λ r. ⌜ Tells r (Each set (isOrdinary (state (now (all .entry))))) ⌝ }
 {
     for n in 0..32 {
@@ -66,7 +66,7 @@ pub fn are_ordinary(all: &Block, set: u32) -> bool
 }
 
 /// Each role of the set is at or below the level.
-pub fn are_below<O: LevelOrder>(order: &O, all: &Block, set: u32, level: u32) -> bool
+pub(crate) fn are_below<O: LevelOrder>(order: &O, all: &Block, set: u32, level: u32) -> bool
     ensures { λ r. ⌜ Tells r (Each set (λ n. meaning (now (order .entry)) .below (state (now (all .entry)) .cards .roles n .level) level)) ⌝ }
 {
     for n in 0..32 {
@@ -78,7 +78,7 @@ pub fn are_below<O: LevelOrder>(order: &O, all: &Block, set: u32, level: u32) ->
 }
 
 /// A right or an access to write or to own carries a level condition.
-pub fn is_strong(mark: u32) -> bool
+pub(crate) fn is_strong(mark: u32) -> bool
     ensures { λ r. ⌜ r ≡ isStrong (modeOf mark) ⌝ }
 {
     mark != 1 && mark != 4
