@@ -47,7 +47,7 @@ pub fn cut<'a>(s: &'a [u8], b: u8) -> Option<(&'a [u8], &'a [u8])>
 
 impl<'a> Part<'a> {
     /// Takes off the field before the next `end`; what is behind that byte is left.
-    pub fn field(&mut self, end: u8) -> Option<Part<'a>>
+    pub(crate) fn field(&mut self, end: u8) -> Option<Part<'a>>
         ensures stays { λ _. ⌜ now (self .exit) .line ≡ now (self .entry) .line ⌝ }
         ensures line { λ r. ⌜ BySome r (Unit {0}) (λ p. p .line ≡ now (self .entry) .line) ⌝ }
         ensures field { λ r. ⌜ BySome r (Lacks end (now (now (self .entry) .bytes))) (λ p. CutAt end (now (now (self .entry) .bytes)) (now (p .bytes)) (now (now (self .exit) .bytes))) ⌝ }

@@ -18,7 +18,7 @@ use crate::record::Line;
 use crate::record::Refusal;
 
 /// The key that the bytes name.
-pub fn key_of(s: &[u8]) -> Option<Key>
+pub(crate) fn key_of(s: &[u8]) -> Option<Key>
     ensures { λ r. ⌜ BySome r ((k : Key) → now (s .entry) ≡ keyText k → ⊥) (λ k. now (s .entry) ≡ keyText k) ⌝ }
 {
     if same(s, b"root") {
@@ -48,7 +48,7 @@ pub fn key_of(s: &[u8]) -> Option<Key>
 
 impl Key {
     /// How many numbers a line of the key has.
-    pub fn count(self) -> usize
+    pub(crate) fn count(self) -> usize
         ensures { λ r. ⌜ r ≡ arity self ⌝ }
     {
         match self {
@@ -61,7 +61,7 @@ impl Key {
     }
 
     /// The place of the key in the order of keys.
-    pub fn place(self) -> u8
+    pub(crate) fn place(self) -> u8
         ensures { λ r. ⌜ r ≡ rank self ⌝ }
     {
         self as u8
@@ -69,7 +69,7 @@ impl Key {
 }
 
 /// A line, without the byte 10 that ends it.
-pub fn entry(mut line: Part) -> Option<Entry>
+pub(crate) fn entry(mut line: Part) -> Option<Entry>
     ensures { λ r. ⌜ BySome r ((l : Line) → now (line .entry .bytes) ≡ body l → ⊥) (λ e. Says (now (line .entry .bytes)) e) ⌝ }
 {
     let key = key_of(line.field(b'=')?.bytes)?;
@@ -136,7 +136,7 @@ fn is_access(n: u64) -> bool
 }
 
 /// Are the numbers of a line in their ranges?
-pub fn in_range(e: &Entry) -> bool
+pub(crate) fn in_range(e: &Entry) -> bool
     ensures { λ r. ⌜ r ≡ entryInRange (now (e .entry)) ⌝ }
 {
     let [a, b, c, d, f] = e.numbers;
@@ -164,7 +164,7 @@ pub fn in_range(e: &Entry) -> bool
 }
 
 /// The next line of the text.
-pub fn next_entry(reader: &mut Reader) -> Option<Entry>
+pub(crate) fn next_entry(reader: &mut Reader) -> Option<Entry>
     ensures { λ r. ⌜ BySome r (NoLine (rest (now (reader .entry)))) (λ e. Reads (rest (now (reader .entry))) e (rest (now (reader .exit))) × (now (reader .exit) .lines ≡ now (reader .entry) .lines + 1)) ⌝ }
 {
     entry(reader.next_line()?)

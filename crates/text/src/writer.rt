@@ -6,7 +6,7 @@ ghost use Rattle.text.specs.Lines.{numeral};
 ghost use Rattle.text.specs.Written.{Wrote, controlLine};
 
 /// How many digits the number has.
-pub fn numeral_len(n: u32) -> usize
+pub(crate) fn numeral_len(n: u32) -> usize
     ensures value { λ r. ⌜ r ≡ length (numeral n) ⌝ }
     ensures few { λ r. ⌜ r ≤ 10 ⌝ }
 {
@@ -26,7 +26,7 @@ fn last_digit(n: u32) -> u8
 }
 
 /// Writes the number in decimal at `at`; answers the place behind it.
-pub fn write_numeral(buffer: &mut [u8], at: usize, n: u32) -> usize
+pub(crate) fn write_numeral(buffer: &mut [u8], at: usize, n: u32) -> usize
     requires { ⌜ at + length (numeral n) ≤ length (now buffer) ⌝ }
     ensures { λ r. ⌜ Wrote (now (buffer .entry)) at (now (buffer .exit)) r (numeral n) ⌝ }
 {
@@ -40,7 +40,7 @@ pub fn write_numeral(buffer: &mut [u8], at: usize, n: u32) -> usize
 }
 
 /// Writes the bytes at `at`; answers the place behind them.
-pub fn write_bytes(buffer: &mut [u8], at: usize, bytes: &[u8]) -> usize
+pub(crate) fn write_bytes(buffer: &mut [u8], at: usize, bytes: &[u8]) -> usize
     requires { ⌜ at + length (now bytes) ≤ length (now buffer) ⌝ }
     ensures { λ r. ⌜ Wrote (now (buffer .entry)) at (now (buffer .exit)) r (now (bytes .entry)) ⌝ }
 {

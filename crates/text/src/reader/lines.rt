@@ -12,7 +12,7 @@ use crate::part::cut;
 
 impl<'a> Reader<'a> {
     /// A reading that is to begin.
-    pub fn new(text: &'a [u8]) -> Reader<'a>
+    pub(crate) fn new(text: &'a [u8]) -> Reader<'a>
         ensures rest { λ r. ⌜ rest r ≡ now (text .entry) ⌝ }
         ensures none { λ r. ⌜ r .lines ≡ 0 ⌝ }
     {
@@ -23,7 +23,7 @@ impl<'a> Reader<'a> {
     }
 
     /// The next line, without the byte 10 that ends it.
-    pub fn next_line(&mut self) -> Option<Part<'a>>
+    pub(crate) fn next_line(&mut self) -> Option<Part<'a>>
         ensures number { λ r. ⌜ BySome r (Unit {0}) (λ p. p .line ≡ now (self .exit) .lines) ⌝ }
         ensures line { λ r. ⌜ BySome r (Lacks 10 (rest (now (self .entry)))) (λ p. CutAt 10 (rest (now (self .entry))) (now (p .bytes)) (rest (now (self .exit))) × (now (self .exit) .lines ≡ now (self .entry) .lines + 1)) ⌝ }
     {
@@ -37,7 +37,7 @@ impl<'a> Reader<'a> {
     }
 
     /// Is nothing left?
-    pub fn is_done(&self) -> bool
+    pub(crate) fn is_done(&self) -> bool
         ensures { λ r. ⌜ r ≡ eqb (length (rest (now (self .entry)))) 0 ⌝ }
     {
         self.left.is_empty()
