@@ -2,6 +2,8 @@
 //!
 //! The first line says the level order, the second the house rule, and each other one call: `start` with a start text behind it,
 //! `request`, `list` with its requests behind it, `question`, `report` or `replay`. A line of another form ends the run.
+#![tactic(auto)]
+
 mod bench;
 mod calls;
 mod command;

@@ -1,4 +1,6 @@
 //! The block that a host lends: plain tables, and the flows and control over them.
+#![tactic(auto)]
+
 mod blank;
 mod block;
 mod forgetting;

@@ -1,4 +1,6 @@
 //! Runs the cases in `data/`: each `NAME.in` has to print `NAME.out`. Prints the names of those that differ, and how many there are.
+#![tactic(auto)]
+
 use console::run;
 use std::{fs, io};
 

@@ -1,4 +1,6 @@
 //! The least flows and control, and what a session reaches.
+#![tactic(auto)]
+
 mod acting;
 mod control;
 mod reach;

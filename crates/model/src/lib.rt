@@ -1,5 +1,7 @@
 //! What the monitor means: its records, its requests, what each needs and does, and the laws over whole runs.
 //! The definitions stand in `specs/`; the types below are the words that they and all code above share.
+#![tactic(auto)]
+
 pub mod answer;
 pub mod fact;
 pub mod laws;

@@ -1,4 +1,6 @@
 //! The access monitor: the calls that a host makes on a block that it lends.
+#![tactic(auto)]
+
 mod asking;
 mod calls;
 pub mod laws;

@@ -1,4 +1,6 @@
 //! The pedal: a start text and requests on standard input, answers and the report on standard output.
+#![tactic(auto)]
+
 use console::run;
 use std::io;
 use std::io::{Read, Write};

@@ -1,4 +1,6 @@
 //! Level orders, which compare the levels of items, and house rules, which may keep a session from taking a role.
+#![tactic(auto)]
+
 mod order;
 mod pair;
 mod role;

@@ -1,4 +1,6 @@
 //! The report on a block: a line for each pair of sessions of which the first controls the second.
+#![tactic(auto)]
+
 mod measuring;
 mod reporting;
 mod selecting;

@@ -1,4 +1,6 @@
 //! Requests: what each kind needs, and what an accepted one does.
+#![tactic(auto)]
+
 mod answering;
 mod check;
 mod effect;

@@ -1,4 +1,6 @@
 //! The second reading of a start text, and the block that it fills.
+#![tactic(auto)]
+
 mod define;
 pub mod laws;
 mod lines;

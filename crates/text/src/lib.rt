@@ -1,4 +1,6 @@
 //! Reading the start text, and writing numbers and report lines.
+#![tactic(auto)]
+
 pub mod numbers;
 pub mod part;
 pub mod reader;

@@ -1,4 +1,6 @@
 //! The worked examples of the rules.
+#![tactic(auto)]
+
 ghost use Rattle.worked.specs.Worked.{Worked};
 
 /// The rules answer every worked example as it is written.

@@ -15,12 +15,12 @@ returns-then-not-is-digit c = not_digit _ c.loop-b.b-index c.loop-b-test.true (n
 
 pub loop-b-preserved : goal.loop-b-preserved
 loop-b-preserved c =
-    let here : Digit _ = digit _ (sym c.if-not-is-digit.ensures) in (
+    let here : Digit _ = digit _ (sym c.if-not-is_digit.ensures) in (
       All-more Digit _ _ 0 c.loop-b-test.true c.loop-b.invariant.0 here,
       held_more _ _ _ _ _ c.loop-b-test.true (omega arith) here c.loop-b.invariant.1 c.min-n.ensures,
     )
 
 pub returns : goal.returns
 returns c =
-    let some : 0 < length c.args.s.now = omega (arith, eqb-false _ 0 (sym c.if-is-empty.ensures)) in
-    writes _ _ _ c.loop-b-test.false some (not_led _ (sym c.if-has-leading-zero.ensures)) c.loop-b.invariant.0 c.loop-b.invariant.1
+    let some : 0 < length c.args.s.now = omega (arith, eqb-false _ 0 (sym c.if-is_empty.ensures)) in
+    writes _ _ _ c.loop-b-test.false some (not_led _ (sym c.if-has_leading_zero.ensures)) c.loop-b.invariant.0 c.loop-b.invariant.1

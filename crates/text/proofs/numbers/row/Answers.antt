@@ -16,7 +16,7 @@ returns-in-err-out g c =
     (no_number c.requires.1 c.loop-i.invariant (omega arith) c.in-ok-field.ensures.field c.in-err-out.ensures)
 
 pub loop-i-preserved : goal.loop-i-preserved
-loop-i-preserved g c = more c.requires.1 c.loop-i.invariant (omega arith) c.in-ok-field.ensures.field c.in-ok-out.ensures
+loop-i-preserved g c = more c.requires.1 c.loop-i.invariant (omega arith) c.in_ok-field.ensures.field c.in_ok-out.ensures
 
 pub returns-in-err-out-2 : goal.returns-in-err-out-2
 returns-in-err-out-2 g c =
@@ -25,5 +25,5 @@ returns-in-err-out-2 g c =
 pub returns : goal.returns
 returns g c =
     let last : c.loop-i.i ≡ c.args.count - 1 = omega arith in
-    subst (λ k. Row c.args.list.bytes.now c.args.count g.row.N (set c.loop-i.out k c.in-ok-out-2.field-0)) last
-    (done c.requires.1 c.loop-i.invariant (omega arith) c.in-ok-out-2.ensures)
+    subst (λ k. Row c.args.list.bytes.now c.args.count g.row.N (set c.loop-i.out k c.in_ok-out-2.field-0)) last
+    (done c.requires.1 c.loop-i.invariant (omega arith) c.in_ok-out-2.ensures)

@@ -8,5 +8,5 @@ returns-in-err-key c = rw c.from-residual-in-err-key.ensures (no_key c.in-ok-fie
 
 pub returns : goal.returns
 returns c =
-    says c.in-ok-field.ensures.field c.in-ok-key.ensures
-    (subst (λ n. Row c.field.new.self.bytes.now n 5 c.in-ok-numbers.numbers) c.count.ensures c.in-ok-numbers.ensures)
+    says c.in_ok-field.ensures.field c.in_ok-key.ensures
+    (subst (λ n. Row c.field.new.self.bytes.now n 5 c.in_ok-numbers.numbers) c.count.ensures c.in_ok-numbers.ensures)

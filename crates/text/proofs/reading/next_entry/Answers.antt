@@ -7,5 +7,5 @@ returns-in-err-next-line c = rw c.from-residual.ensures (no_end _ c.in-err-next-
 
 pub returns : goal.returns
 returns c =
-    let got = c.in-ok-next-line.ensures.line in
+    let got = c.in_ok-next_line.ensures.line in
     weaker c.entry.result (no_line got.0) (λ e s. (reads got.0 s, got.1)) c.entry.ensures

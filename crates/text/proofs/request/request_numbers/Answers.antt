@@ -9,8 +9,8 @@ returns-then-not-is-request c = no_key c.in-ok-key.ensures.field c.if-not-is-req
 
 pub returns : goal.returns
 returns c =
-    let cut = c.in-ok-key.ensures.field in
-    let row = c.in-ok-numbers.ensures in
+    let cut = c.in_ok-key.ensures.field in
+    let row = c.in_ok-numbers.ensures in
     weaker c.narrowed.result (beyond cut row)
-    (λ ns h. subst (Request c.args.line.now) (sym h.0) (request cut c.if-not-is-request.ensures row (subst Narrow h.0 h.1)))
+    (λ ns h. subst (Request c.args.line.now) (sym h.0) (request cut c.if-not-is_request.ensures row (subst Narrow h.0 h.1)))
     c.narrowed.ensures

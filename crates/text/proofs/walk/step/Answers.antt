@@ -24,9 +24,9 @@ line-of-requires c = fits c.in-ok-e.ensures.0.kept (sym c.if-not-in-range.ensure
 
 pub returns : goal.returns
 returns c =
-    let got = c.in-ok-e.ensures in
-    let here = sym c.if-not-in-range.ensures in
-    let is = sym (c.line-of.ensures ∙ line_kept got.0.kept here) in
+    let got = c.in_ok-e.ensures in
+    let here = sym c.if-not-in_range.ensures in
+    let is = sym (c.line_of.ensures ∙ line_kept got.0.kept here) in
     record {
       shorter = shorter got.0;
       ranged = subst (λ l. in_range l ≡ true) is (ranged got.0.kept here);

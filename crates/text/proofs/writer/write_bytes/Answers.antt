@@ -7,6 +7,6 @@ pub returns : goal.returns
 returns c =
     let long : length c.args.bytes.now ≡ c.args.at + length c.args.bytes.now - c.args.at = omega arith in
     record {
-      text = put_mid-paste c.args.at _ c.args.buffer.now _ c.args.bytes.now (length c.args.bytes.now) c.copy-from-slice.ensures.after long refl ∙ sym (as_paste c.args.buffer.now c.args.at c.args.bytes.now);
+      text = put_mid-paste c.args.at _ c.args.buffer.now _ c.args.bytes.now (length c.args.bytes.now) c.copy_from_slice.ensures.after long refl ∙ sym (as_paste c.args.buffer.now c.args.at c.args.bytes.now);
       place = refl;
     }

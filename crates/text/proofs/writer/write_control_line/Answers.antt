@@ -17,6 +17,6 @@ write-bytes-requires c = omega (arith, control_length c.args.s c.args.t)
 
 pub returns : goal.returns
 returns c =
-    let numbers = wrote_on (omega arith) c.write-bytes-numbers.ensures c.write-numeral-comma.ensures in
-    let other = wrote_on (omega arith) (wrote_on (omega arith) numbers c.write-bytes-other.ensures) c.write-numeral-end.ensures in
+    let numbers = wrote_on (omega arith) c.write_bytes-numbers.ensures c.write_numeral-comma.ensures in
+    let other = wrote_on (omega arith) (wrote_on (omega arith) numbers c.write_bytes-other.ensures) c.write-numeral-end.ensures in
     wrote_on (omega arith) (rw append_assoc at other) c.write-bytes.ensures

@@ -6,7 +6,7 @@ pub loop-i-init : goal.loop-i-init
 loop-i-init c = start _ _ _ _ (omega arith)
 
 pub loop-i-preserved : goal.loop-i-preserved
-loop-i-preserved c = more c.loop-i.invariant c.loop-i-test.true (omega (arith, c.loop-i.auto.i, c.numeral-len.ensures.value, c.requires)) c.last-digit.ensures
+loop-i-preserved c = more c.loop-i.invariant c.loop-i-test.true (omega (arith, c.loop-i.auto.i, c.numeral_len.ensures.value, c.requires)) c.last_digit.ensures
 
 pub returns : goal.returns
-returns c = all c.loop-i.invariant c.loop-i-test.false (ap (λ k. c.args.at + k) c.numeral-len.ensures.value)
+returns c = all c.loop-i.invariant c.loop-i-test.false (ap (λ k. c.args.at + k) c.numeral_len.ensures.value)
