@@ -5,5 +5,5 @@ use Rattle.policy.proofs.rule.taken.Goals as goal
 
 pub returns-then-role-lt32 : goal.returns-then-role-lt32
 returns-then-role-lt32 c k h =
-    ap (λ (x : ℕ). bit x k) c.with-role.ensures ∙ bit_of_or c.args.life (2 ^ c.args.role) k
+    ap (λ (x : ℕ). bit x k) c.with_role.ensures ∙ bit_of_or c.args.life (2 ^ c.args.role) k
     ∙ ap (λ (x : Bool). bit c.args.life k || x) (bit_one c.args.role k)

@@ -4,14 +4,14 @@ use Rattle.std.proofs.lemmas.Bool.{eqb-true, eqb-false}
 use Rattle.text.proofs.Numerals.{Digit, digit, no_digit, zero_led, not_led, not_numeral, not_digit, held_more, writes}
 use Rattle.text.proofs.numbers.number.Goals as goal
 
-pub returns-then-is-empty : goal.returns-then-is-empty
-returns-then-is-empty c = not_numeral _ (λ p. omega (arith, p.some, eqb-true _ 0 (sym c.if-is-empty.ensures)))
+pub returns-then-is_empty : goal.returns-then-is_empty
+returns-then-is_empty c = not_numeral _ (λ p. omega (arith, p.some, eqb-true _ 0 (sym c.if-is_empty.ensures)))
 
-pub returns-then-has-leading-zero : goal.returns-then-has-leading-zero
-returns-then-has-leading-zero c = zero_led _ (sym c.if-has-leading-zero.ensures)
+pub returns-then-has_leading_zero : goal.returns-then-has_leading_zero
+returns-then-has_leading_zero c = zero_led _ (sym c.if-has_leading_zero.ensures)
 
-pub returns-then-not-is-digit : goal.returns-then-not-is-digit
-returns-then-not-is-digit c = not_digit _ c.loop-b.b-index c.loop-b-test.true (no_digit _ (sym c.if-not-is-digit.ensures))
+pub returns-then-not-is_digit : goal.returns-then-not-is_digit
+returns-then-not-is_digit c = not_digit _ c.loop-b.b-index c.loop-b-test.true (no_digit _ (sym c.if-not-is_digit.ensures))
 
 pub loop-b-preserved : goal.loop-b-preserved
 loop-b-preserved c =

@@ -3,8 +3,8 @@ use Rattle.text.specs.Post.{Row}
 use Rattle.text.proofs.Bodies.{no_key, says}
 use Rattle.text.proofs.reading.entry.Goals as goal
 
-pub returns-in-err-key : goal.returns-in-err-key
-returns-in-err-key c = rw c.from-residual-in-err-key.ensures (no_key c.in-ok-field.ensures.field c.in-err-key.ensures)
+pub returns-in_err-key : goal.returns-in_err-key
+returns-in_err-key c = rw c.from_residual-in_err-key.ensures (no_key c.in_ok-field.ensures.field c.in_err-key.ensures)
 
 pub returns : goal.returns
 returns c =

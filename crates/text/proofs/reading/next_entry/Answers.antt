@@ -2,8 +2,8 @@ use Rattle.text.proofs.Bodies.{no_end, no_line, reads}
 use Rattle.text.proofs.Options.{weaker}
 use Rattle.text.proofs.reading.next_entry.Goals as goal
 
-pub returns-in-err-next-line : goal.returns-in-err-next-line
-returns-in-err-next-line c = rw c.from-residual.ensures (no_end _ c.in-err-next-line.ensures.line)
+pub returns-in_err-next_line : goal.returns-in_err-next_line
+returns-in_err-next_line c = rw c.from_residual.ensures (no_end _ c.in_err-next_line.ensures.line)
 
 pub returns : goal.returns
 returns c =

@@ -4,8 +4,8 @@ use Rattle.text.proofs.Options.{weaker}
 use Rattle.text.proofs.Requests.{no_key, beyond, request}
 use Rattle.text.proofs.request.request_numbers.Goals as goal
 
-pub returns-then-not-is-request : goal.returns-then-not-is-request
-returns-then-not-is-request c = no_key c.in-ok-key.ensures.field c.if-not-is-request.ensures
+pub returns-then-not-is_request : goal.returns-then-not-is_request
+returns-then-not-is_request c = no_key c.in_ok-key.ensures.field c.if-not-is_request.ensures
 
 pub returns : goal.returns
 returns c =

@@ -7,20 +7,20 @@ use Rattle.text.proofs.Ranges.{range_held}
 use Rattle.text.proofs.Walks.{ranged, fits, line_kept, ended, on, met}
 use Rattle.text.proofs.walk.step.Goals as goal
 
-pub returns-in-err-e : goal.returns-in-err-e
-returns-in-err-e c = rw c.from-residual.ensures (record { shorter = tt; ranged = tt; walk = λ ls done w. ended w c.in-err-e.ensures })
+pub returns-in_err-e : goal.returns-in_err-e
+returns-in_err-e c = rw c.from_residual.ensures (record { shorter = tt; ranged = tt; walk = λ ls done w. ended w c.in_err-e.ensures })
 
-pub returns-then-not-in-range : goal.returns-then-not-in-range
-returns-then-not-in-range c = record {
+pub returns-then-not-in_range : goal.returns-then-not-in_range
+returns-then-not-in_range c = record {
   shorter = tt;
   ranged = tt;
   walk = λ ls done w.
-      let got = c.in-ok-e.ensures in
-      absurd (both_ways _ (sym c.if-not-in-range.ensures) (range_held _ _ got.0.kept ∙ met (on w {s = c.next-entry.new.reader} got.0 got.1)));
+      let got = c.in_ok-e.ensures in
+      absurd (both_ways _ (sym c.if-not-in_range.ensures) (range_held _ _ got.0.kept ∙ met (on w {s = c.next_entry.new.reader} got.0 got.1)));
 }
 
-pub line-of-requires : goal.line-of-requires
-line-of-requires c = fits c.in-ok-e.ensures.0.kept (sym c.if-not-in-range.ensures)
+pub line_of-requires : goal.line_of-requires
+line_of-requires c = fits c.in_ok-e.ensures.0.kept (sym c.if-not-in_range.ensures)
 
 pub returns : goal.returns
 returns c =
@@ -30,5 +30,5 @@ returns c =
     record {
       shorter = shorter got.0;
       ranged = subst (λ l. in_range l ≡ true) is (ranged got.0.kept here);
-      walk = λ ls done w. subst (λ l. Walk ls c.next-entry.new.reader (l ∷ done)) is (on w got.0 got.1);
+      walk = λ ls done w. subst (λ l. Walk ls c.next_entry.new.reader (l ∷ done)) is (on w got.0 got.1);
     }

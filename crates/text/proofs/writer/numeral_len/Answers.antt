@@ -6,8 +6,8 @@ use Rattle.text.proofs.writer.numeral_len.Goals as goal
 pub loop-left-init : goal.loop-left-init
 loop-left-init c = omega (arith, numeral_length c.args.n)
 
-pub overflow-add-len : goal.overflow-add-len
-overflow-add-len c = omega (arith, c.loop-left.invariant, numeral_few c.args.n (omega arith))
+pub overflow_add-len : goal.overflow_add-len
+overflow_add-len c = omega (arith, c.loop-left.invariant, numeral_few c.args.n (omega arith))
 
 pub loop-left-preserved : goal.loop-left-preserved
 loop-left-preserved c = omega (arith, c.loop-left.invariant, digits_more c.loop-left.left c.loop-left-test.true)

@@ -3,20 +3,20 @@ use Rattle.text.proofs.Reports.{control_length}
 use Rattle.text.proofs.Writings.{wrote_on}
 use Rattle.text.proofs.writer.write_control_line.Goals as goal
 
-pub write-numeral-comma-requires : goal.write-numeral-comma-requires
-write-numeral-comma-requires c = omega (arith, control_length c.args.s c.args.t)
+pub write_numeral-comma-requires : goal.write_numeral-comma-requires
+write_numeral-comma-requires c = omega (arith, control_length c.args.s c.args.t)
 
-pub write-bytes-other-requires : goal.write-bytes-other-requires
-write-bytes-other-requires c = omega (arith, control_length c.args.s c.args.t)
+pub write_bytes-other-requires : goal.write_bytes-other-requires
+write_bytes-other-requires c = omega (arith, control_length c.args.s c.args.t)
 
-pub write-numeral-end-requires : goal.write-numeral-end-requires
-write-numeral-end-requires c = omega (arith, control_length c.args.s c.args.t)
+pub write_numeral-end-requires : goal.write_numeral-end-requires
+write_numeral-end-requires c = omega (arith, control_length c.args.s c.args.t)
 
-pub write-bytes-requires : goal.write-bytes-requires
-write-bytes-requires c = omega (arith, control_length c.args.s c.args.t)
+pub write_bytes-requires : goal.write_bytes-requires
+write_bytes-requires c = omega (arith, control_length c.args.s c.args.t)
 
 pub returns : goal.returns
 returns c =
     let numbers = wrote_on (omega arith) c.write_bytes-numbers.ensures c.write_numeral-comma.ensures in
-    let other = wrote_on (omega arith) (wrote_on (omega arith) numbers c.write_bytes-other.ensures) c.write-numeral-end.ensures in
-    wrote_on (omega arith) (rw append_assoc at other) c.write-bytes.ensures
+    let other = wrote_on (omega arith) (wrote_on (omega arith) numbers c.write_bytes-other.ensures) c.write_numeral-end.ensures in
+    wrote_on (omega arith) (rw append_assoc at other) c.write_bytes.ensures
