@@ -47,7 +47,7 @@ impl<'a> Bench<'a> {
         rule: &R,
         text: &'a [u8],
     ) -> Answer
-        ensures outcome { Start (meaning order.now) (answers rule.now) self.old.block text.now result self.new.block }
+        ensures outcome { Start (O.meaning order.now) (R.answers rule.now) self.old.block text.now result self.new.block }
         ensures text { result ≡ Answer.Accepted → self.new.text.now ≡ text.now }
     {
         let answer = start(&mut self.block, order, rule, text);
@@ -75,7 +75,7 @@ impl<'a> Bench<'a> {
         rule: &R,
         q: &Request,
     ) -> io::Result<Answer>
-        ensures outcome { IfOk result (λ a. Requested (meaning order.now) (answers rule.now) self.old.block q.now a self.new.block) }
+        ensures outcome { IfOk result (λ a. Requested (O.meaning order.now) (R.answers rule.now) self.old.block q.now a self.new.block) }
         ensures given { IfOk result (λ a. Keeps self.old (q.now ∷ []) (a ∷ []) self.new) }
     {
         let answer = request(&mut self.block, order, rule, q);
@@ -100,7 +100,7 @@ impl<'a> Bench<'a> {
         rule: &R,
         records: &mut [Record],
     ) -> io::Result<Answer>
-        ensures outcome { IfOk result (λ a. Listed (meaning order.now) (answers rule.now) self.old.block records.old a records.new self.new.block) }
+        ensures outcome { IfOk result (λ a. Listed (O.meaning order.now) (R.answers rule.now) self.old.block records.old a records.new self.new.block) }
         ensures given { IfOk result (λ a. Keeps self.old (asked a records.old) (told a records.new) self.new) }
     {
         let answer = list(&mut self.block, order, rule, records);

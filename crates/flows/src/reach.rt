@@ -61,7 +61,7 @@ fn within(block: &Block, passing: &Set256) -> Set256
 
 /// The ends of the chains of holdings that pass for `x`.
 fn chains<O: LevelOrder>(block: &Block, order: &O, x: u32) -> Set256
-    ensures { (y : ℕ) → y < 256 → Decides (in256 result y) (Chain (O.LevelOrder.meaning order.now) (state block.now) x y) }
+    ensures { (y : ℕ) → y < 256 → Decides (in256 result y) (Chain (O.meaning order.now) (state block.now) x y) }
 {
     let containers = passing(block, order, x);
     within(block, &containers)
@@ -76,7 +76,7 @@ fn is_live_session(block: &Block, y: u32) -> bool
 
 /// Whether the session `x` reaches `y`.
 pub fn reaches<O: LevelOrder>(block: &Block, order: &O, x: u32, y: u32) -> bool
-    ensures { Decides result (Reaches (O.LevelOrder.meaning order.now) (state block.now) x y) }
+    ensures { Decides result (Reaches (O.meaning order.now) (state block.now) x y) }
 {
     if y > 255 {
         return false;

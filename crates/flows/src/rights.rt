@@ -32,7 +32,7 @@ fn is_checked(mark: u32) -> bool
 
 /// Whether the container `c` passes for `x`.
 fn passes<O: LevelOrder>(block: &Block, order: &O, x: u32, c: u32) -> bool
-    ensures { Decides result (Passes (O.LevelOrder.meaning order.now) (state block.now) x c) }
+    ensures { Decides result (Passes (O.meaning order.now) (state block.now) x c) }
 {
     if !entitled(block, x, c, Mode::Execute) {
         return false;
@@ -46,7 +46,7 @@ fn passes<O: LevelOrder>(block: &Block, order: &O, x: u32, c: u32) -> bool
 
 /// The containers that pass for `x`.
 pub(crate) fn passing<O: LevelOrder>(block: &Block, order: &O, x: u32) -> Set256
-    ensures { (c : ℕ) → c < 256 → Decides (in256 result c) (Passes (O.LevelOrder.meaning order.now) (state block.now) x c) }
+    ensures { (c : ℕ) → c < 256 → Decides (in256 result c) (Passes (O.meaning order.now) (state block.now) x c) }
 {
     let mut all = Set256::new();
     for c in 0..256 {

@@ -70,7 +70,7 @@ fn alive(block: &Block, a: u32, b: u32) -> bool
 
 /// The relation stands between live items.
 fn holds<O: LevelOrder>(block: &Block, order: &O, topic: Topic, a: u32, b: u32, mode: Mode) -> bool
-    ensures { Tells result (Holds (meaning order.now) (state block.now) topic a b mode) }
+    ensures { Tells result (Holds (O.meaning order.now) (state block.now) topic a b mode) }
 {
     match topic {
         Topic::Right => block.stands(Fact::Lives(b)) && block.stands(Fact::Right(a, b, mode)),
@@ -84,7 +84,7 @@ fn holds<O: LevelOrder>(block: &Block, order: &O, topic: Topic, a: u32, b: u32, 
 
 /// Answers a question; an item that is not alive gives no.
 pub(crate) fn ask<O: LevelOrder>(block: &Block, order: &O, q: &Question) -> Result<bool, Refusal>
-    ensures { Asked (meaning order.now) block.now q.now result }
+    ensures { Asked (O.meaning order.now) block.now q.now result }
 {
     if !block.started {
         return Err(Refusal::Blank);

@@ -27,9 +27,9 @@ pub fn start<O: LevelOrder, R: HouseRule>(
     rule: &R,
     text: &[u8],
 ) -> Answer
-    ensures outcome { Start (meaning order.now) (answers rule.now) block.old text.now result block.new }
-    ensures begins { result ≡ Answer.Accepted → Laws (meaning order.now) (answers rule.now) text.now [] [] block.new }
-    ensures laws { LawsStay (meaning order.now) (answers rule.now) block.old block.new }
+    ensures outcome { Start (O.meaning order.now) (R.answers rule.now) block.old text.now result block.new }
+    ensures begins { result ≡ Answer.Accepted → Laws (O.meaning order.now) (R.answers rule.now) text.now [] [] block.new }
+    ensures laws { LawsStay (O.meaning order.now) (R.answers rule.now) block.old block.new }
 {
     start_blank(block, order, rule, text)
 }
@@ -40,7 +40,7 @@ fn answer_one<O: LevelOrder, R: HouseRule>(
     rule: &R,
     q: &Request,
 ) -> Answer
-    ensures { Requested (meaning order.now) (answers rule.now) block.old q.now result block.new }
+    ensures { Requested (O.meaning order.now) (R.answers rule.now) block.old q.now result block.new }
 {
     if !block.started {
         return Answer::Refused(Refusal::Blank);
@@ -55,8 +55,8 @@ pub fn request<O: LevelOrder, R: HouseRule>(
     rule: &R,
     q: &Request,
 ) -> Answer
-    ensures outcome { Requested (meaning order.now) (answers rule.now) block.old q.now result block.new }
-    ensures laws { LawsAfter (meaning order.now) (answers rule.now) block.old (q.now ∷ []) (result ∷ []) block.new }
+    ensures outcome { Requested (O.meaning order.now) (R.answers rule.now) block.old q.now result block.new }
+    ensures laws { LawsAfter (O.meaning order.now) (R.answers rule.now) block.old (q.now ∷ []) (result ∷ []) block.new }
 {
     answer_one(block, order, rule, q)
 }
@@ -69,16 +69,16 @@ pub fn list<O: LevelOrder, R: HouseRule>(
     rule: &R,
     records: &mut [Record],
 ) -> Answer
-    ensures outcome { Listed (meaning order.now) (answers rule.now) block.old records.old result records.new block.new }
-    ensures laws { LawsAfter (meaning order.now) (answers rule.now) block.old (asked result records.old) (told result records.new) block.new }
+    ensures outcome { Listed (O.meaning order.now) (R.answers rule.now) block.old records.old result records.new block.new }
+    ensures laws { LawsAfter (O.meaning order.now) (R.answers rule.now) block.old (asked result records.old) (told result records.new) block.new }
 {
     answer_list(block, order, rule, records)
 }
 
 /// Answers a question: yes exactly if the relation stands between live items. The block is only read.
 pub fn question<O: LevelOrder>(block: &Block, order: &O, q: &Question) -> Result<bool, Refusal>
-    ensures outcome { Asked (meaning order.now) block.now q.now result }
-    ensures laws { (h : Rule) → LawsStay (meaning order.now) h block.now block.now }
+    ensures outcome { Asked (O.meaning order.now) block.now q.now result }
+    ensures laws { (h : Rule) → LawsStay (O.meaning order.now) h block.now block.now }
 {
     ask(block, order, q)
 }

@@ -5,14 +5,14 @@ use policy::{HouseRule, LevelOrder};
 
 /// Taking back never opens a door.
 pub fn replay_stands<O: LevelOrder, R: HouseRule>(order: &O, rule: &R) -> u8
-    ensures { Replay (meaning order.now) (answers rule.now) }
+    ensures { Replay (O.meaning order.now) (R.answers rule.now) }
 {
     0
 }
 
 /// A level is changed from there alone.
 pub fn isolation_stands<O: LevelOrder, R: HouseRule>(order: &O, rule: &R) -> u8
-    ensures { Isolation (meaning order.now) (answers rule.now) }
+    ensures { Isolation (O.meaning order.now) (R.answers rule.now) }
 {
     0
 }

@@ -20,7 +20,7 @@ fn answer_in_place<O: LevelOrder, R: HouseRule>(
     entry: &mut Record,
 )
     ensures stays { entry.new.request ≡ entry.old.request }
-    ensures answered { Answered (meaning order.now) (answers rule.now) block.old entry.old.request entry.new.answer block.new }
+    ensures answered { Answered (O.meaning order.now) (R.answers rule.now) block.old entry.old.request entry.new.answer block.new }
 {
     entry.answer = answer(block, order, rule, &entry.request);
 }
@@ -32,7 +32,7 @@ fn answer_each<O: LevelOrder, R: HouseRule>(
     rule: &R,
     records: &mut [Record],
 )
-    ensures { InTurn (meaning order.now) (answers rule.now) block.old records.old records.new block.new }
+    ensures { InTurn (O.meaning order.now) (R.answers rule.now) block.old records.old records.new block.new }
 {
     for entry in records.iter_mut() {
         answer_in_place(block, order, rule, entry);
@@ -47,7 +47,7 @@ pub(crate) fn answer_list<O: LevelOrder, R: HouseRule>(
     rule: &R,
     records: &mut [Record],
 ) -> Answer
-    ensures { Listed (meaning order.now) (answers rule.now) block.old records.old result records.new block.new }
+    ensures { Listed (O.meaning order.now) (R.answers rule.now) block.old records.old result records.new block.new }
 {
     if !block.started {
         return Answer::Refused(Refusal::Blank);

@@ -26,7 +26,7 @@ pub fn answer<O: LevelOrder, R: HouseRule>(
     rule: &R,
     q: &Request,
 ) -> Answer
-    ensures { Answered (meaning order.now) (answers rule.now) block.old q.now result block.new }
+    ensures { Answered (O.meaning order.now) (R.answers rule.now) block.old q.now result block.new }
 {
     match check(block, order, rule, q) {
         Err(refusal) => Answer::Refused(refusal),

@@ -22,7 +22,7 @@ pub(crate) fn opening<O: LevelOrder, R: HouseRule>(
     q: &Request,
     kind: Kind,
 ) -> Result<(), Refusal>
-    ensures { Judged (opening_of (meaning order.now) (answers rule.now) (state block.now) q.now kind) result }
+    ensures { Judged (opening_of (O.meaning order.now) (R.answers rule.now) (state block.now) q.now kind) result }
 {
     let row = row(kind);
     if !shaped(&row, q) {
@@ -52,7 +52,7 @@ fn take<O: LevelOrder, R: HouseRule>(
     rule: &R,
     q: &Request,
 ) -> Result<(), Refusal>
-    ensures { Judged (further_of (meaning order.now) (answers rule.now) (state block.now) q.now Kind.Take) result }
+    ensures { Judged (further_of (O.meaning order.now) (R.answers rule.now) (state block.now) q.now Kind.Take) result }
 {
     let session = block.tables.session(q.x);
     let role = block.tables.role(q.r);
@@ -80,7 +80,7 @@ fn drop_role<O: LevelOrder, R: HouseRule>(
     rule: &R,
     q: &Request,
 ) -> Result<(), Refusal>
-    ensures { Judged (further_of (meaning order.now) (answers rule.now) (state block.now) q.now Kind.Drop) result }
+    ensures { Judged (further_of (O.meaning order.now) (R.answers rule.now) (state block.now) q.now Kind.Drop) result }
 {
     let level = block.tables.role(q.r).level;
     if !block.stands(Fact::Held(q.x, q.r)) {
@@ -101,7 +101,7 @@ fn grant<O: LevelOrder, R: HouseRule>(
     rule: &R,
     q: &Request,
 ) -> Result<(), Refusal>
-    ensures { Judged (further_of (meaning order.now) (answers rule.now) (state block.now) q.now Kind.Grant) result }
+    ensures { Judged (further_of (O.meaning order.now) (R.answers rule.now) (state block.now) q.now Kind.Grant) result }
 {
     let role = block.tables.role(q.r).level;
     let item = block.tables.item(q.y).level;
@@ -129,7 +129,7 @@ fn revoke<O: LevelOrder, R: HouseRule>(
     rule: &R,
     q: &Request,
 ) -> Result<(), Refusal>
-    ensures { Judged (further_of (meaning order.now) (answers rule.now) (state block.now) q.now Kind.Revoke) result }
+    ensures { Judged (further_of (O.meaning order.now) (R.answers rule.now) (state block.now) q.now Kind.Revoke) result }
 {
     let role = block.tables.role(q.r).level;
     if !managed(block, q.x, q.r) {
@@ -156,8 +156,8 @@ fn create<O: LevelOrder, R: HouseRule>(
     rule: &R,
     q: &Request,
 ) -> Result<(), Refusal>
-    ensures object { Judged (further_of (meaning order.now) (answers rule.now) (state block.now) q.now Kind.Object) result }
-    ensures container { Judged (further_of (meaning order.now) (answers rule.now) (state block.now) q.now Kind.Container) result }
+    ensures object { Judged (further_of (O.meaning order.now) (R.answers rule.now) (state block.now) q.now Kind.Object) result }
+    ensures container { Judged (further_of (O.meaning order.now) (R.answers rule.now) (state block.now) q.now Kind.Container) result }
 {
     let role = block.tables.role(q.r).level;
     let container = block.tables.item(q.z).level;
@@ -185,7 +185,7 @@ fn link<O: LevelOrder, R: HouseRule>(
     rule: &R,
     q: &Request,
 ) -> Result<(), Refusal>
-    ensures { Judged (further_of (meaning order.now) (answers rule.now) (state block.now) q.now Kind.Link) result }
+    ensures { Judged (further_of (O.meaning order.now) (R.answers rule.now) (state block.now) q.now Kind.Link) result }
 {
     let container = block.tables.item(q.z).level;
     if !free(block, q.y) {
@@ -209,7 +209,7 @@ fn unlink<O: LevelOrder, R: HouseRule>(
     rule: &R,
     q: &Request,
 ) -> Result<(), Refusal>
-    ensures { Judged (further_of (meaning order.now) (answers rule.now) (state block.now) q.now Kind.Unlink) result }
+    ensures { Judged (further_of (O.meaning order.now) (R.answers rule.now) (state block.now) q.now Kind.Unlink) result }
 {
     if !free(block, q.y) {
         return Err(Refusal::Protected);
@@ -235,7 +235,7 @@ fn delete<O: LevelOrder, R: HouseRule>(
     rule: &R,
     q: &Request,
 ) -> Result<(), Refusal>
-    ensures { Judged (further_of (meaning order.now) (answers rule.now) (state block.now) q.now Kind.Delete) result }
+    ensures { Judged (further_of (O.meaning order.now) (R.answers rule.now) (state block.now) q.now Kind.Delete) result }
 {
     if !free(block, q.y) {
         return Err(Refusal::Protected);
@@ -261,7 +261,7 @@ fn open<O: LevelOrder, R: HouseRule>(
     rule: &R,
     q: &Request,
 ) -> Result<(), Refusal>
-    ensures { Judged (further_of (meaning order.now) (answers rule.now) (state block.now) q.now Kind.Open) result }
+    ensures { Judged (further_of (O.meaning order.now) (R.answers rule.now) (state block.now) q.now Kind.Open) result }
 {
     let role = block.tables.role(q.r).level;
     if !managed(block, q.x, q.r) {
@@ -288,7 +288,7 @@ fn close<O: LevelOrder, R: HouseRule>(
     rule: &R,
     q: &Request,
 ) -> Result<(), Refusal>
-    ensures { Judged (further_of (meaning order.now) (answers rule.now) (state block.now) q.now Kind.Close) result }
+    ensures { Judged (further_of (O.meaning order.now) (R.answers rule.now) (state block.now) q.now Kind.Close) result }
 {
     let session = block.tables.item(q.y).level;
     if !block.stands(Fact::Access(q.x, q.y, Mode::Own)) {
@@ -309,7 +309,7 @@ fn gain<O: LevelOrder, R: HouseRule>(
     rule: &R,
     q: &Request,
 ) -> Result<(), Refusal>
-    ensures { Judged (further_of (meaning order.now) (answers rule.now) (state block.now) q.now Kind.Gain) result }
+    ensures { Judged (further_of (O.meaning order.now) (R.answers rule.now) (state block.now) q.now Kind.Gain) result }
 {
     if !entitled(block, q.x, q.y, Mode::of(q.m)) {
         return Err(Refusal::AccessMissing);
@@ -330,7 +330,7 @@ fn give_up<O: LevelOrder, R: HouseRule>(
     rule: &R,
     q: &Request,
 ) -> Result<(), Refusal>
-    ensures { Judged (further_of (meaning order.now) (answers rule.now) (state block.now) q.now Kind.GiveUp) result }
+    ensures { Judged (further_of (O.meaning order.now) (R.answers rule.now) (state block.now) q.now Kind.GiveUp) result }
 {
     if !block.stands(Fact::Access(q.x, q.y, Mode::of(q.m))) {
         return Err(Refusal::AccessMissing);
@@ -346,7 +346,7 @@ fn further<O: LevelOrder, R: HouseRule>(
     q: &Request,
     kind: Kind,
 ) -> Result<(), Refusal>
-    ensures { Judged (further_of (meaning order.now) (answers rule.now) (state block.now) q.now kind) result }
+    ensures { Judged (further_of (O.meaning order.now) (R.answers rule.now) (state block.now) q.now kind) result }
 {
     match kind {
         Kind::Take => take(block, order, rule, q),
@@ -371,7 +371,7 @@ pub(crate) fn check<O: LevelOrder, R: HouseRule>(
     rule: &R,
     q: &Request,
 ) -> Result<Kind, Refusal>
-    ensures { Checked (meaning order.now) (answers rule.now) (state block.now) q.now result }
+    ensures { Checked (O.meaning order.now) (R.answers rule.now) (state block.now) q.now result }
 {
     let Some(kind) = Kind::of(q.k) else {
         return Err(Refusal::Form);

@@ -45,7 +45,7 @@ pub fn suits(span: Span, y: u32, m: u32) -> bool
 
 /// A used level is known.
 pub(crate) fn level_known<O: LevelOrder>(order: &O, span: Span, l: u32) -> bool
-    ensures { result ≡ is_known (O.LevelOrder.meaning order.now) span l }
+    ensures { result ≡ is_known (O.meaning order.now) span l }
 {
     match span {
         Span::Within(_, _) => order.knows(l),

@@ -41,7 +41,7 @@ pub(crate) fn unlocked(block: &Block, x: u32, role: u32) -> bool
 
 /// If the level is the top, the voucher has write access to the gate.
 pub(crate) fn vouched<O: LevelOrder>(block: &Block, order: &O, v: u32, level: u32) -> bool
-    ensures { Tells result (Vouched (O.LevelOrder.meaning order.now) (state block.now) v level) }
+    ensures { Tells result (Vouched (O.meaning order.now) (state block.now) v level) }
 {
     level != order.top() || block.stands(Fact::Access(v, block.tables.gate, Mode::Write))
 }

@@ -5,14 +5,14 @@ use policy::{HouseRule, LevelOrder};
 
 /// The state that an accepted text begins keeps to the level conditions, and all that follows stands in it.
 pub fn start_is_sound<O: LevelOrder, R: HouseRule>(o: &O, r: &R) -> u8
-    ensures { SoundStart (meaning o.now) (answers r.now) }
+    ensures { SoundStart (O.meaning o.now) (R.answers r.now) }
 {
     0
 }
 
 /// A text leaves one answer at a block, and one state after it.
 pub fn one_start<O: LevelOrder, R: HouseRule>(o: &O, r: &R) -> u8
-    ensures { OneStart (meaning o.now) (answers r.now) }
+    ensures { OneStart (O.meaning o.now) (R.answers r.now) }
 {
     0
 }

@@ -21,7 +21,7 @@ fn root<O: LevelOrder, R: HouseRule>(
     level: u32,
     mark: u32,
 ) -> Result<(), Refusal>
-    ensures { Judged (asks (meaning order.now) (answers rule.now) (state all.now) (state earlier.now) (Line.Root level mark)) result }
+    ensures { Judged (asks (O.meaning order.now) (R.answers rule.now) (state all.now) (state earlier.now) (Line.Root level mark)) result }
 {
     if !order.knows(level) {
         return Err(Refusal::LineLevelUnknown);
@@ -36,7 +36,7 @@ fn gate<O: LevelOrder, R: HouseRule>(
     earlier: &Block,
     object: u32,
 ) -> Result<(), Refusal>
-    ensures { Judged (asks (meaning order.now) (answers rule.now) (state all.now) (state earlier.now) (Line.Gate object)) result }
+    ensures { Judged (asks (O.meaning order.now) (R.answers rule.now) (state all.now) (state earlier.now) (Line.Gate object)) result }
 {
     if !is_object(all, object) {
         return Err(Refusal::LineUndefined);
@@ -58,7 +58,7 @@ fn account<O: LevelOrder, R: HouseRule>(
     roles: u32,
     key: u32,
 ) -> Result<(), Refusal>
-    ensures { Judged (asks (meaning order.now) (answers rule.now) (state all.now) (state earlier.now) (Line.Account number level guarded roles key)) result }
+    ensures { Judged (asks (O.meaning order.now) (R.answers rule.now) (state all.now) (state earlier.now) (Line.Account number level guarded roles key)) result }
 {
     if earlier.tables.account(number).defined
         || !are_defined(all, roles)
@@ -89,7 +89,7 @@ fn role<O: LevelOrder, R: HouseRule>(
     manages: u32,
     key: u32,
 ) -> Result<(), Refusal>
-    ensures { Judged (asks (meaning order.now) (answers rule.now) (state all.now) (state earlier.now) (Line.Role number level kind manages key)) result }
+    ensures { Judged (asks (O.meaning order.now) (R.answers rule.now) (state all.now) (state earlier.now) (Line.Role number level kind manages key)) result }
 {
     if earlier.tables.role(number).defined
         || !are_ordinary(all, manages)
@@ -113,7 +113,7 @@ fn container<O: LevelOrder, R: HouseRule>(
     mark: u32,
     holder: u32,
 ) -> Result<(), Refusal>
-    ensures { Judged (asks (meaning order.now) (answers rule.now) (state all.now) (state earlier.now) (Line.Container number level mark holder)) result }
+    ensures { Judged (asks (O.meaning order.now) (R.answers rule.now) (state all.now) (state earlier.now) (Line.Container number level mark holder)) result }
 {
     if earlier.tables.item(number).used || !is_container(all, holder) || holder >= number {
         return Err(Refusal::LineUndefined);
@@ -136,7 +136,7 @@ fn object<O: LevelOrder, R: HouseRule>(
     level: u32,
     holder: u32,
 ) -> Result<(), Refusal>
-    ensures { Judged (asks (meaning order.now) (answers rule.now) (state all.now) (state earlier.now) (Line.Object number level holder)) result }
+    ensures { Judged (asks (O.meaning order.now) (R.answers rule.now) (state all.now) (state earlier.now) (Line.Object number level holder)) result }
 {
     if earlier.tables.item(number).used || !is_container(all, holder) {
         return Err(Refusal::LineUndefined);
@@ -161,7 +161,7 @@ fn session<O: LevelOrder, R: HouseRule>(
     program: u32,
     parent: u32,
 ) -> Result<(), Refusal>
-    ensures { Judged (asks (meaning order.now) (answers rule.now) (state all.now) (state earlier.now) (Line.Session number account level program parent)) result }
+    ensures { Judged (asks (O.meaning order.now) (R.answers rule.now) (state all.now) (state earlier.now) (Line.Session number account level program parent)) result }
 {
     if earlier.tables.item(number).used
         || !all.tables.account(account).defined
@@ -193,7 +193,7 @@ fn right<O: LevelOrder, R: HouseRule>(
     item: u32,
     right: u32,
 ) -> Result<(), Refusal>
-    ensures { Judged (asks (meaning order.now) (answers rule.now) (state all.now) (state earlier.now) (Line.Right role item right)) result }
+    ensures { Judged (asks (O.meaning order.now) (R.answers rule.now) (state all.now) (state earlier.now) (Line.Right role item right)) result }
 {
     if !all.tables.role(role).defined || !all.tables.item(item).used {
         return Err(Refusal::LineUndefined);
@@ -214,7 +214,7 @@ fn held<O: LevelOrder, R: HouseRule>(
     session: u32,
     role: u32,
 ) -> Result<(), Refusal>
-    ensures { Judged (asks (meaning order.now) (answers rule.now) (state all.now) (state earlier.now) (Line.Held session role)) result }
+    ensures { Judged (asks (O.meaning order.now) (R.answers rule.now) (state all.now) (state earlier.now) (Line.Held session role)) result }
 {
     let account = all.tables.session(session).account;
     if !all.tables.item(session).used || !all.tables.role(role).defined {
@@ -241,7 +241,7 @@ fn access<O: LevelOrder, R: HouseRule>(
     item: u32,
     access: u32,
 ) -> Result<(), Refusal>
-    ensures { Judged (asks (meaning order.now) (answers rule.now) (state all.now) (state earlier.now) (Line.Access session item access)) result }
+    ensures { Judged (asks (O.meaning order.now) (R.answers rule.now) (state all.now) (state earlier.now) (Line.Access session item access)) result }
 {
     if !all.tables.item(session).used || !all.tables.item(item).used {
         return Err(Refusal::LineUndefined);
@@ -266,7 +266,7 @@ pub(crate) fn judge<O: LevelOrder, R: HouseRule>(
     earlier: &Block,
     line: Line,
 ) -> Result<(), Refusal>
-    ensures { Judged (asks (meaning order.now) (answers rule.now) (state all.now) (state earlier.now) line) result }
+    ensures { Judged (asks (O.meaning order.now) (R.answers rule.now) (state all.now) (state earlier.now) line) result }
 {
     match line {
         Line::Root { level, mark } => root(order, rule, all, earlier, level, mark),

@@ -33,7 +33,7 @@ pub(crate) fn second_reading<O: LevelOrder, R: HouseRule>(
     all: &Block,
     earlier: &mut Block,
 ) -> Result<(), Stop>
-    ensures { (ls : List Line) → Accepted text.now ls → state all.now ≡ listed ls → state earlier.old ≡ empty → Second (meaning order.now) (answers rule.now) ls result }
+    ensures { (ls : List Line) → Accepted text.now ls → state all.now ≡ listed ls → state earlier.old ≡ empty → Second (O.meaning order.now) (R.answers rule.now) ls result }
 {
     let mut reader = begin(text);
     while let Some(line) = step(&mut reader) {

@@ -32,7 +32,7 @@ fn read<O: LevelOrder, R: HouseRule>(
     all: &mut Block,
 ) -> Result<(), Answer>
     requires { state all.old ≡ empty }
-    ensures { Reads (meaning order.now) (answers rule.now) text.now result (state all.new) }
+    ensures { Reads (O.meaning order.now) (R.answers rule.now) text.now result (state all.new) }
 {
     if let Err(refusal) = first_reading(text) {
         return Err(Answer::RefusedAt(refusal_of(refusal.fault), refusal.line));
@@ -53,7 +53,7 @@ pub fn start<O: LevelOrder, R: HouseRule>(
     rule: &R,
     text: &[u8],
 ) -> Answer
-    ensures { Start (meaning order.now) (answers rule.now) block.old text.now result block.new }
+    ensures { Start (O.meaning order.now) (R.answers rule.now) block.old text.now result block.new }
 {
     if block.started {
         return Answer::Refused(Refusal::Started);

@@ -66,7 +66,7 @@ pub(crate) fn are_ordinary(all: &Block, set: u32) -> bool
 
 /// Each role of the set is at or below the level.
 pub(crate) fn are_below<O: LevelOrder>(order: &O, all: &Block, set: u32, level: u32) -> bool
-    ensures { Tells result (Each set (λ n. (meaning order.now).below ((state all.now).cards.roles n).level level)) }
+    ensures { Tells result (Each set (λ n. (O.meaning order.now).below ((state all.now).cards.roles n).level level)) }
 {
     for n in 0..32 {
         if has_role(set, n) && !order.at_or_below(all.tables.role(n).level, level) {
