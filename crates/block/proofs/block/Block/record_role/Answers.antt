@@ -6,6 +6,6 @@ use Rattle.block.proofs.block.Block.record_role.Goals as goal
 pub returns : goal.returns
 returns c =
     record {
-      state = c.set-session.ensures.state ∙ took_is (state c.args.self.now) c.args.s c.args.role _ (search rules) (search rules) (search rules) (search rules);
-      started = c.set-session.ensures.started;
+      state = c.set_session.ensures.state ∙ took_is (state c.args.self.now) c.args.s c.args.role _ (search rules) (search rules) (search rules) (search rules);
+      started = c.set_session.ensures.started;
     }
