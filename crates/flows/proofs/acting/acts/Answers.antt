@@ -7,9 +7,9 @@ use Rattle.flows.proofs.Places.{granted, denied}
 use Rattle.flows.proofs.Steps.{rules, stays}
 use Rattle.flows.proofs.acting.acts.Goals as goal
 
-pub returns-then-not-controls-any : goal.returns-then-not-controls-any
-returns-then-not-controls-any c =
-    let none = c.if-not-controls-any.ensures c.args.tables.now in
+pub returns-then-not-controls_any : goal.returns-then-not-controls_any
+returns-then-not-controls_any c =
+    let none = c.if-not-controls_any.ensures c.args.tables.now in
     stays c.args.tables.now c.args.relations.now (λ P. Unguarded (cards_of c.args.tables.now) c.args.s → Acts c.args.s P)
     (λ _. record {
       outward = λ t _ _ h _. absurd (none t h);
@@ -21,12 +21,12 @@ returns-then-not-unguarded c =
     stays c.args.tables.now c.args.relations.now (λ P. Unguarded (cards_of c.args.tables.now) c.args.s → Acts c.args.s P)
     (λ u. denied _ c.if-not-unguarded.ensures u.1)
 
-pub touch-all-grew-requires : goal.touch-all-grew-requires
-touch-all-grew-requires c = (c.requires, granted _ c.if-not-unguarded.ensures)
+pub touch_all-grew-requires : goal.touch_all-grew-requires
+touch_all-grew-requires c = (c.requires, granted _ c.if-not-unguarded.ensures)
 
 pub returns : goal.returns
 returns c =
     let t = c.args.tables.now in
     let u : Unguarded (cards_of t) c.args.s = (c.requires, granted _ c.if-not-unguarded.ensures) in
     weaken (rules t) (λ x. Unguarded (cards_of t) c.args.s → Acts c.args.s (Has t x)) (λ p _. record { outward = p.0; touches = p.1 })
-    (both (rules t) (c.outward-all-grew.ensures t u) c.touch-all-grew.ensures)
+    (both (rules t) (c.outward_all-grew.ensures t u) c.touch_all-grew.ensures)

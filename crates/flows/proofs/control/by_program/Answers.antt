@@ -24,7 +24,7 @@ loop-s-init c = sessions_none c.args.tables.now c.args.relations.now (λ k. ByFl
 pub loop-s-preserved : goal.loop-s-preserved
 loop-s-preserved c =
     sessions_more c.args.tables.now (λ k. ByFlow k c.program-e.result k c.args.t) c.loop-s.s c.loop-s.invariant
-    (c.by-flow-grew.ensures c.args.tables.now
+    (c.by_flow-grew.ensures c.args.tables.now
     (λ h. by_program (c.loop-s.auto.s, omega arith) c.requires (λ z. c.if-e-eq0.false (c.program-e.ensures ∙ z))
     (subst (λ (e : ℕ). Follows c.args.tables.now (Has c.args.tables.now c.loop-s.relations) (Flow c.loop-s.s e)) c.program-e.ensures (before h))))
 

@@ -10,4 +10,4 @@ returns c =
     let t = c.args.tables.now in
     weaken (rules t) (λ x. Controlled (cards_of t) (program_of t) c.args.t (Has t x))
     (λ p. record { itself = p.0.0.0; owner = p.0.0.1; by_program = p.0.1; by_key = p.1 })
-    (both (rules t) {Q = λ x. ByKey (cards_of t) c.args.t (Has t x)} (both (rules t) (both (rules t) c.itself-grew.ensures c.owners-grew.ensures) c.by-program-grew.ensures) c.by-key-grew.ensures)
+    (both (rules t) {Q = λ x. ByKey (cards_of t) c.args.t (Has t x)} (both (rules t) (both (rules t) c.itself-grew.ensures c.owners-grew.ensures) c.by_program-grew.ensures) c.by_key-grew.ensures)

@@ -9,7 +9,7 @@ pub loop-t-init : goal.loop-t-init
 loop-t-init c tables = none (rules tables) c.args.relations.now (λ k x. (s : ℕ) → s < 64 → Onward s k (Has tables x))
 
 pub loop-t-preserved : goal.loop-t-preserved
-loop-t-preserved c tables = more (rules tables) (λ k x. (s : ℕ) → s < 64 → Onward s k (Has tables x)) c.loop-t.t (c.loop-t.invariant tables) (c.onward-through-grew.ensures tables)
+loop-t-preserved c tables = more (rules tables) (λ k x. (s : ℕ) → s < 64 → Onward s k (Has tables x)) c.loop-t.t (c.loop-t.invariant tables) (c.onward_through-grew.ensures tables)
 
 pub returns : goal.returns
 returns c tables = all (rules tables) (λ k x. (s : ℕ) → s < 64 → Onward s k (Has tables x)) 64 c.loop-t.t c.loop-t-test.false (c.loop-t.invariant tables)

@@ -5,9 +5,9 @@ use Rattle.flows.specs.Rules.{Onward}
 use Rattle.flows.proofs.Steps.{rules, stays}
 use Rattle.flows.proofs.control.onward_through.Goals as goal
 
-pub returns-then-not-controls-any : goal.returns-then-not-controls-any
-returns-then-not-controls-any c tables =
-    stays tables c.args.relations.now (λ P. (s : ℕ) → s < 64 → Onward s c.args.t P) (λ s l u _ h. absurd (c.if-not-controls-any.ensures tables u h))
+pub returns-then-not-controls_any : goal.returns-then-not-controls_any
+returns-then-not-controls_any c tables =
+    stays tables c.args.relations.now (λ P. (s : ℕ) → s < 64 → Onward s c.args.t P) (λ s l u _ h. absurd (c.if-not-controls_any.ensures tables u h))
 
 pub loop-s-init : goal.loop-s-init
 loop-s-init c tables = none (rules tables) c.args.relations.now (λ k x. Onward k c.args.t (Has tables x))

@@ -21,8 +21,8 @@ pub returns : goal.returns
 returns c tables u =
     let m = c.if-not-meets.ensures in
     let l : m.0 < 256 = omega (arith, m.1) in
-    adds tables c.args.relations.now c.add-flow.new.relations c.add-flow.result (Flow c.args.e c.args.s) (Inward c.args.s c.args.e)
-    (c.add-flow.ensures tables)
+    adds tables c.args.relations.now c.add_flow.new.relations c.add_flow.result (Flow c.args.e c.args.s) (Inward c.args.s c.args.e)
+    (c.add_flow.ensures tables)
     (inward u (before (placed 64 64 c.args.s m.0 (row64 c.args.relations.now.control c.args.s m.0) c.requires.s m.1 m.2))
     (before (placed 256 256 c.args.e m.0 (row256 c.args.relations.now.flows c.args.e m.0) c.requires.e l (sym (c.first-reached.ensures m.0 m.1) ∙ m.3))))
     (λ h _ _ _. h)

@@ -11,5 +11,5 @@ returns-then-not-lives c =
 
 pub returns : goal.returns
 returns c =
-    adds c.args.tables.now c.args.relations.now c.add-control.new.relations c.add-control.result (Control c.args.s c.args.s) (Itself c.args.s)
-    (c.add-control.ensures c.args.tables.now) (itself c.requires (before (granted _ (c.if-not-lives.ensures c.args.relations.now)))) (λ h _. h)
+    adds c.args.tables.now c.args.relations.now c.add_control.new.relations c.add_control.result (Control c.args.s c.args.s) (Itself c.args.s)
+    (c.add_control.ensures c.args.tables.now) (itself c.requires (before (granted _ (c.if-not-lives.ensures c.args.relations.now)))) (λ h _. h)

@@ -13,6 +13,6 @@ returns-then-not-controls c tables =
 
 pub returns : goal.returns
 returns c tables =
-    adds_row tables c.args.relations.now c.add-controls.new.relations c.add-controls.result Control 64 c.args.s c.args.t
-    (in64 (get_or c.args.relations.now.control c.args.t none64)) (Onward c.args.s c.args.t) (λ _. refl) c.requires.t (c.add-controls.ensures tables)
+    adds_row tables c.args.relations.now c.add_controls.new.relations c.add_controls.result Control 64 c.args.s c.args.t
+    (in64 (get_or c.args.relations.now.control c.args.t none64)) (Onward c.args.s c.args.t) (λ _. refl) c.requires.t (c.add_controls.ensures tables)
     (λ _ h. onward (before (granted _ (c.if-not-controls.ensures tables))) (before h)) (λ k e _ h. k e h)

@@ -14,6 +14,6 @@ returns-then-not-controls c tables u =
 pub returns : goal.returns
 returns c tables u =
     let l : c.args.t < 256 = omega (arith, c.requires.t) in
-    adds_row tables c.args.relations.now c.add-flows.new.relations c.add-flows.result Flow 256 c.args.s c.args.t
-    (in256 (get_or c.args.relations.now.flows c.args.t none256)) (Outward c.args.s c.args.t) (λ _. refl) l (c.add-flows.ensures tables)
+    adds_row tables c.args.relations.now c.add_flows.new.relations c.add_flows.result Flow 256 c.args.s c.args.t
+    (in256 (get_or c.args.relations.now.flows c.args.t none256)) (Outward c.args.s c.args.t) (λ _. refl) l (c.add_flows.ensures tables)
     (λ _ h. outward u (before (granted _ (c.if-not-controls.ensures tables))) (before h)) (λ k e _ h. k e h)

@@ -7,12 +7,12 @@ use Rattle.flows.proofs.Places.{granted, denied}
 use Rattle.flows.proofs.Steps.{stays, adds_row}
 use Rattle.flows.proofs.rules.passing.Goals as goal
 
-pub returns-then-not-flows-to : goal.returns-then-not-flows-to
-returns-then-not-flows-to c tables =
-    stays tables c.args.relations.now (Passing c.args.a c.args.b) (λ _ h _. denied _ (c.if-not-flows-to.ensures tables) h)
+pub returns-then-not-flows_to : goal.returns-then-not-flows_to
+returns-then-not-flows_to c tables =
+    stays tables c.args.relations.now (Passing c.args.a c.args.b) (λ _ h _. denied _ (c.if-not-flows_to.ensures tables) h)
 
 pub returns : goal.returns
 returns c tables =
-    adds_row tables c.args.relations.now c.add-flows.new.relations c.add-flows.result Flow 256 c.args.a c.args.b
-    (in256 (get_or c.args.relations.now.flows c.args.b none256)) (Passing c.args.a c.args.b) (λ _. refl) c.requires.b (c.add-flows.ensures tables)
-    (λ _ h. passing (before (granted _ (c.if-not-flows-to.ensures tables))) (before h)) (λ k e _ h. k e h)
+    adds_row tables c.args.relations.now c.add_flows.new.relations c.add_flows.result Flow 256 c.args.a c.args.b
+    (in256 (get_or c.args.relations.now.flows c.args.b none256)) (Passing c.args.a c.args.b) (λ _. refl) c.requires.b (c.add_flows.ensures tables)
+    (λ _ h. passing (before (granted _ (c.if-not-flows_to.ensures tables))) (before h)) (λ k e _ h. k e h)

@@ -9,7 +9,7 @@ pub loop-b-init : goal.loop-b-init
 loop-b-init c tables = none (rules tables) c.args.relations.now (λ k x. (a : ℕ) → a < 256 → Passing a k (Has tables x))
 
 pub loop-b-preserved : goal.loop-b-preserved
-loop-b-preserved c tables = more (rules tables) (λ k x. (a : ℕ) → a < 256 → Passing a k (Has tables x)) c.loop-b.b (c.loop-b.invariant tables) (c.passing-through-grew.ensures tables)
+loop-b-preserved c tables = more (rules tables) (λ k x. (a : ℕ) → a < 256 → Passing a k (Has tables x)) c.loop-b.b (c.loop-b.invariant tables) (c.passing_through-grew.ensures tables)
 
 pub returns : goal.returns
 returns c tables = all (rules tables) (λ k x. (a : ℕ) → a < 256 → Passing a k (Has tables x)) 256 c.loop-b.b c.loop-b-test.false (c.loop-b.invariant tables)

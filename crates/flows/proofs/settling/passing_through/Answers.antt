@@ -5,9 +5,9 @@ use Rattle.flows.specs.Rules.{Passing}
 use Rattle.flows.proofs.Steps.{rules, stays}
 use Rattle.flows.proofs.settling.passing_through.Goals as goal
 
-pub returns-then-not-flows-any : goal.returns-then-not-flows-any
-returns-then-not-flows-any c tables =
-    stays tables c.args.relations.now (λ P. (a : ℕ) → a < 256 → Passing a c.args.b P) (λ a l e _ h. absurd (c.if-not-flows-any.ensures tables e h))
+pub returns-then-not-flows_any : goal.returns-then-not-flows_any
+returns-then-not-flows_any c tables =
+    stays tables c.args.relations.now (λ P. (a : ℕ) → a < 256 → Passing a c.args.b P) (λ a l e _ h. absurd (c.if-not-flows_any.ensures tables e h))
 
 pub loop-a-init : goal.loop-a-init
 loop-a-init c tables = none (rules tables) c.args.relations.now (λ k x. Passing k c.args.b (Has tables x))

@@ -9,4 +9,4 @@ pub returns : goal.returns
 returns c =
     let t = c.args.tables.now in
     weaken (rules t) (λ x. Closed (cards_of t) (program_of t) (Has t x)) (λ p. record { controlled = p.0.0.0; onward = p.0.0.1; acts = p.0.1; passing = p.1 })
-    (both (rules t) (both (rules t) (both (rules t) c.controlled-all-grew.ensures (c.onward-all-grew.ensures t)) c.acts-all-grew.ensures) (c.passing-all-grew.ensures t))
+    (both (rules t) (both (rules t) (both (rules t) c.controlled_all-grew.ensures (c.onward_all-grew.ensures t)) c.acts_all-grew.ensures) (c.passing_all-grew.ensures t))

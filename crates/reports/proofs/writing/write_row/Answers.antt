@@ -7,10 +7,10 @@ use Rattle.reports.proofs.writing.write_row.Goals as goal
 pub loop-t-init : goal.loop-t-init
 loop-t-init c = wrote_first (pair (state c.args.block.now) c.args.s) c.args.buffer.now c.args.at
 
-pub write-pair-end-requires : goal.write-pair-end-requires
-write-pair-end-requires c =
+pub write_pair-end-requires : goal.write_pair-end-requires
+write_pair-end-requires c =
     omega (arith, c.requires, c.loop-t.invariant.place, length_within (pair (state c.args.block.now) c.args.s) 63 c.loop-t.t c.loop-t.auto.t (omega arith))
 
 pub loop-t-preserved : goal.loop-t-preserved
 loop-t-preserved c =
-    wrote_more (pair (state c.args.block.now) c.args.s) c.loop-t.t c.loop-t.auto.t (omega (arith, c.requires)) c.loop-t.invariant c.write-pair-end.ensures
+    wrote_more (pair (state c.args.block.now) c.args.s) c.loop-t.t c.loop-t.auto.t (omega (arith, c.requires)) c.loop-t.invariant c.write_pair-end.ensures
