@@ -11,4 +11,4 @@ returns-in-Err g c = refused c.in-Err.ensures
 pub returns-in-Ok : goal.returns-in-Ok
 returns-in-Ok g c =
     let after = λ (given : State). Settles given (state c.follow.new.block) in
-    accepted c.in-Ok.ensures.0 c.in-Ok.ensures.1 (subst after c.carry-out.ensures.after c.follow.ensures.state) (c.follow.ensures.started ∙ c.carry-out.ensures.started)
+    accepted c.in-Ok.ensures.0 c.in-Ok.ensures.1 (subst after c.carry_out.ensures.after c.follow.ensures.state) (c.follow.ensures.started ∙ c.carry_out.ensures.started)

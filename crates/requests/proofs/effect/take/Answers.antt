@@ -5,4 +5,4 @@ use Rattle.requests.proofs.effect.take.Goals as goal
 
 pub returns : goal.returns
 returns c =
-    record { state = c.add.ensures.state ∙ ap (adding (Held c.args.x c.args.role)) c.record-role.ensures.state; started = cc }
+    record { state = c.add.ensures.state ∙ ap (adding (Held c.args.x c.args.role)) c.record_role.ensures.state; started = cc }

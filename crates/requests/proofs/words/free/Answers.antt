@@ -2,12 +2,12 @@ use Rattle.std.proofs.Common.{rules}
 use Rattle.model.specs.Needs.{Free}
 use Rattle.requests.proofs.words.free.Goals as goal
 
-pub returns-then-is-account-key : goal.returns-then-is-account-key
-returns-then-is-account-key c = λ f. f.no_account_key c.if-is-account-key.ensures.0 c.if-y-eq0.false c.if-is-account-key.ensures.1
+pub returns-then-is_account_key : goal.returns-then-is_account_key
+returns-then-is_account_key c = λ f. f.no_account_key c.if-is_account_key.ensures.0 c.if-y-eq0.false c.if-is_account_key.ensures.1
 
-pub returns-then-is-role-key : goal.returns-then-is-role-key
-returns-then-is-role-key c = λ f. f.no_role_key c.if-is-role-key.ensures.0 c.if-y-eq0.false c.if-is-role-key.ensures.1
+pub returns-then-is_role_key : goal.returns-then-is_role_key
+returns-then-is_role_key c = λ f. f.no_role_key c.if-is_role_key.ensures.0 c.if-y-eq0.false c.if-is_role_key.ensures.1
 
 pub returns : goal.returns
 returns c =
-    record { no_root = c.if-y-eq64.false; no_gate = c.if-y-block.false; no_account_key = λ a n e. c.if-is-account-key.ensures (a, e); no_role_key = λ a n e. c.if-is-role-key.ensures (a, e) }
+    record { no_root = c.if-y-eq64.false; no_gate = c.if-y-block.false; no_account_key = λ a n e. c.if-is_account_key.ensures (a, e); no_role_key = λ a n e. c.if-is_role_key.ensures (a, e) }

@@ -5,4 +5,4 @@ use Rattle.block.specs.Writing.{adding, writing, session_is}
 use Rattle.start.proofs.define.add_held.Goals as goal
 
 pub returns : goal.returns
-returns c = record { state = c.add.ensures.state ∙ ap (adding (Held c.args.session c.args.role)) c.record-role.ensures.state; started = cc }
+returns c = record { state = c.add.ensures.state ∙ ap (adding (Held c.args.session c.args.role)) c.record_role.ensures.state; started = cc }

@@ -8,4 +8,4 @@ use Rattle.block.specs.Writing.{adding, writing, session_is}
 use Rattle.start.proofs.define.add_root.Goals as goal
 
 pub returns : goal.returns
-returns c = record { state = c.add.ensures.state ∙ ap (adding (Lives root)) (c.set-item.ensures.state ∙ ap (λ (i : Item). writing (item root i) (state c.args.block.now)) c.live.ensures); started = cc }
+returns c = record { state = c.add.ensures.state ∙ ap (adding (Lives root)) (c.set_item.ensures.state ∙ ap (λ (i : Item). writing (item root i) (state c.args.block.now)) c.live.ensures); started = cc }

@@ -8,4 +8,4 @@ use Rattle.block.specs.Writing.{adding, writing, session_is}
 use Rattle.start.proofs.define.add_session.Goals as goal
 
 pub returns : goal.returns
-returns c = record { state = c.add.ensures.state ∙ ap (adding (Lives c.args.number)) (c.set-session.ensures.state ∙ ap (session_is c.args.number c.args.session) (c.set-item.ensures.state ∙ ap (λ (i : Item). writing (item c.args.number i) (state c.args.block.now)) c.live.ensures)); started = cc }
+returns c = record { state = c.add.ensures.state ∙ ap (adding (Lives c.args.number)) (c.set_session.ensures.state ∙ ap (session_is c.args.number c.args.session) (c.set_item.ensures.state ∙ ap (λ (i : Item). writing (item c.args.number i) (state c.args.block.now)) c.live.ensures)); started = cc }

@@ -7,28 +7,28 @@ use Rattle.start.proofs.Shapes.{by_shape}
 use Rattle.start.proofs.define.plus.Goals as goal
 
 pub returns-in-Root : goal.returns-in-Root
-returns-in-Root c = by_shape c.in-Root.is (record { after = c.add-root.ensures.state; started = c.add-root.ensures.started })
+returns-in-Root c = by_shape c.in-Root.is (record { after = c.add_root.ensures.state; started = c.add_root.ensures.started })
 
 pub returns-in-Gate : goal.returns-in-Gate
-returns-in-Gate c = by_shape c.in-Gate.is (record { after = c.set-gate.ensures.state; started = c.set-gate.ensures.started })
+returns-in-Gate c = by_shape c.in-Gate.is (record { after = c.set_gate.ensures.state; started = c.set_gate.ensures.started })
 
 pub returns-in-Account : goal.returns-in-Account
-returns-in-Account c = by_shape c.in-Account.is (record { after = c.set-account.ensures.state; started = c.set-account.ensures.started })
+returns-in-Account c = by_shape c.in-Account.is (record { after = c.set_account.ensures.state; started = c.set_account.ensures.started })
 
 pub returns-in-Role : goal.returns-in-Role
-returns-in-Role c = by_shape c.in-Role.is (record { after = c.set-role.ensures.state; started = c.set-role.ensures.started })
+returns-in-Role c = by_shape c.in-Role.is (record { after = c.set_role.ensures.state; started = c.set_role.ensures.started })
 
 pub returns-in-Container : goal.returns-in-Container
-returns-in-Container c = by_shape c.in-Container.is (record { after = c.add-entity.ensures.state; started = c.add-entity.ensures.started })
+returns-in-Container c = by_shape c.in-Container.is (record { after = c.add_entity.ensures.state; started = c.add_entity.ensures.started })
 
 pub returns-in-Object : goal.returns-in-Object
-returns-in-Object c = by_shape c.in-Object.is (record { after = c.add-entity-in-Object.ensures.state; started = c.add-entity-in-Object.ensures.started })
+returns-in-Object c = by_shape c.in-Object.is (record { after = c.add_entity-in-Object.ensures.state; started = c.add_entity-in-Object.ensures.started })
 
 pub returns-in-Session : goal.returns-in-Session
-returns-in-Session c = by_shape c.in-Session.is (record { after = c.add-session.ensures.state; started = c.add-session.ensures.started })
+returns-in-Session c = by_shape c.in-Session.is (record { after = c.add_session.ensures.state; started = c.add_session.ensures.started })
 
 pub returns-in-Held : goal.returns-in-Held
-returns-in-Held c = by_shape c.in-Held.is (record { after = c.add-held.ensures.state; started = c.add-held.ensures.started })
+returns-in-Held c = by_shape c.in-Held.is (record { after = c.add_held.ensures.state; started = c.add_held.ensures.started })
 
 pub returns-in-Right : goal.returns-in-Right
 returns-in-Right c =

@@ -15,4 +15,4 @@ loop-line-preserved c = (
 
 pub returns : goal.returns
 returns c =
-    record { state = λ ls a e. let inv = c.loop-line.invariant.0 ls a e in inv.2 ∙ ap listed (c.in-default.ensures.walk ls inv.0 inv.1); started = c.loop-line.invariant.1 }
+    record { state = λ ls a e. let inv = c.loop-line.invariant.0 ls a e in inv.2 ∙ ap listed (c.in_default.ensures.walk ls inv.0 inv.1); started = c.loop-line.invariant.1 }

@@ -32,11 +32,11 @@ loop-line-preserved g c = λ ls a e f.
     let h = g.R.HouseRule.answers c.args.rule.now in
     let l = c.in-Some.line in
     let inv = c.loop-line.invariant ls a e f in
-    (l ∷ inv.0, c.in-Some.ensures.walk ls inv.0 inv.1, c.define.ensures.state ∙ ap (with l) inv.2, (subst (λ (B : State). Met (asks o h (listed ls) B l)) inv.2 (subst (λ (A : State). Met (asks o h A (state c.loop-line.earlier) l)) e c.in-default-judge.ensures), inv.3))
+    (l ∷ inv.0, c.in-Some.ensures.walk ls inv.0 inv.1, c.define.ensures.state ∙ ap (with l) inv.2, (subst (λ (B : State). Met (asks o h (listed ls) B l)) inv.2 (subst (λ (A : State). Met (asks o h A (state c.loop-line.earlier) l)) e c.in_default-judge.ensures), inv.3))
 
 pub returns : goal.returns
 returns g c = λ ls a e f.
     let o = g.O.LevelOrder.meaning c.args.order.now in
     let h = g.R.HouseRule.answers c.args.rule.now in
     let inv = c.loop-line.invariant ls a e f in
-    subst (λ (done : List Line). Clean o h (listed ls) done) (c.in-default.ensures.walk ls inv.0 inv.1) inv.3
+    subst (λ (done : List Line). Clean o h (listed ls) done) (c.in_default.ensures.walk ls inv.0 inv.1) inv.3

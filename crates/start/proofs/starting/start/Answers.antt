@@ -9,4 +9,4 @@ pub returns-in-Err : goal.returns-in-Err
 returns-in-Err g c = refused c.if-block.false c.in-Err.ensures
 
 pub returns : goal.returns
-returns g c = accepted c.if-block.false c.in-default.ensures refl
+returns g c = accepted c.if-block.false c.in_default.ensures refl
