@@ -6,4 +6,4 @@ returns g c =
     let o = g.O.LevelOrder.meaning c.args.order.now in
     let h = g.R.HouseRule.answers c.args.rule.now in
     let law = g.met.O.LevelOrder.lawful c.args.order.now in
-    record { outcome = c.answer-one.ensures; laws = after_request o h law c.answer-one.ensures }
+    record { outcome = c.answer_one.ensures; laws = after_request o h law c.answer_one.ensures }

@@ -8,4 +8,4 @@ pub returns-then-records-gt-LONGEST : goal.returns-then-records-gt-LONGEST
 returns-then-records-gt-LONGEST g c = too_long c.if-not-block.false c.if-records-gt-LONGEST.true
 
 pub returns : goal.returns
-returns g c = answered c.if-not-block.false c.if-records-gt-LONGEST.false c.answer-each.ensures
+returns g c = answered c.if-not-block.false c.if-records-gt-LONGEST.false c.answer_each.ensures
