@@ -1,7 +1,7 @@
 -- Equal facts, facts among others, and what an effect leaves.
 use Rattle.std.proofs.Common.{◌≡◌, ℕ, Bool, true, false, cond, not, ◌&&◌, ◌||◌, T, eqb, ◌⊎◌, List, [], ◌∷◌, sym, refl, ap, ◌∙◌, subst, inl, inr, ⊎_elim, eqb→eq, T_not}
 use lib.Dec.{not_T}
-use Rattle.std.specs.List.{AllByRecursion as All}
+use Rattle.std.specs.List.{AllByRecursion}
 use Rattle.model.specs.declared.fact.Fact.{Fact}
 use Rattle.model.specs.declared.fact.Fact.TheVariants.{Lives, Held, Right, Access, Holding, Flow, Control}
 use Rattle.model.specs.declared.fact.Mode.{Mode}
@@ -47,7 +47,7 @@ pub same_equal : (f g : Fact) → T (same f g) → f ≡ g
 same_equal f g t = sym (decoded_code f) ∙ (ap decoded (same_codes (code f) (code g) t) ∙ decoded_code g)
 
 -- what holds of each fact listed holds of each that is among them
-pub listed : (P : Fact → Type 0) (fs : List Fact) → All P fs → (f : Fact) → T (among f fs) → P f
+pub listed : (P : Fact → Type 0) (fs : List Fact) → AllByRecursion P fs → (f : Fact) → T (among f fs) → P f
 listed P [] all f t = absurd t
 listed P (g ∷ gs) all f t = ⊎_elim (λ s. subst P (sym (same_equal f g s)) all.0) (λ u. listed P gs all.1 f u) (either (same f g) (among f gs) t)
 

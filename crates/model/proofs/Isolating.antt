@@ -1,6 +1,6 @@
 -- Nothing at or above a level changes but by a request from there.
 use Rattle.std.proofs.Common.{◌≡◌, ℕ, not, T, eqb, List, [], ◌∷◌, Some, sym, refl, ap, ◌∙◌, subst, inl, inr, ⊎_elim, arith, eqb→eq, T_not}
-use Rattle.std.specs.List.{AllByRecursion as All}
+use Rattle.std.specs.List.{AllByRecursion}
 use Rattle.policy.specs.Order.{Order, Lawful}
 use Rattle.policy.specs.Rule.{Rule}
 use Rattle.model.specs.declared.answer.Answer.{Answer}
@@ -77,10 +77,10 @@ module _ (o : Order) (law : Lawful o) (h : Rule) (L : ℕ) (S : State) (q : Requ
 
   -- ## What comes
 
-  new_entity : T (not (S.cards.items q.y).used) → Stands S (Access q.x q.z Write) → All (λ f. ¬ OfHigh o L S f) (Lives q.y ∷ Holding q.z q.y ∷ Right q.r q.y Own ∷ [])
+  new_entity : T (not (S.cards.items q.y).used) → Stands S (Access q.x q.z Write) → AllByRecursion (λ f. ¬ OfHigh o L S f) (Lives q.y ∷ Holding q.z q.y ∷ Right q.r q.y Own ∷ [])
   new_entity free s = (unborn q.y free, (⊎_elim (under q.z (writes q.z s)) (unborn q.y free), (unborn q.y free, tt)))
 
-  comes_low : (k : Kind) → Met (needs o h S q (Some k)) → All (λ f. ¬ OfHigh o L S f) (effect q k).comes
+  comes_low : (k : Kind) → Met (needs o h S q (Some k)) → AllByRecursion (λ f. ¬ OfHigh o L S f) (effect q k).comes
   comes_low Take m = (λ w. low w.1, tt)
   comes_low Drop m = tt
   comes_low Grant m = (under q.y (owns q.y (its Grant refusal.AccessMissing m)), tt)
@@ -102,7 +102,7 @@ module _ (o : Order) (law : Lawful o) (h : Rule) (L : ℕ) (S : State) (q : Requ
   new_low i new l r≤ x≤ t =
       low (law.transitive _ _ _ (law.transitive _ _ _ (rw (put_new i new S.cards.items, l) at t) r≤) x≤)
 
-  born_low : (k : Kind) → Met (needs o h S q (Some k)) → All (BornLow o L ((effect q k).written S.cards)) (effect q k).comes
+  born_low : (k : Kind) → Met (needs o h S q (Some k)) → AllByRecursion (BornLow o L ((effect q k).written S.cards)) (effect q k).comes
   born_low Take m = (tt, tt)
   born_low Drop m = tt
   born_low Grant m = (tt, tt)

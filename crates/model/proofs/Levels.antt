@@ -1,7 +1,7 @@
 -- Facts keep to their level conditions along a run.
 use Rattle.std.proofs.Common.{◌≡◌, ℕ, ◌≤◌, Bool, true, false, cond, not, ◌&&◌, T, eqb, leb, List, [], ◌∷◌, Some, sym, refl, ap, subst, ⊎_elim, eqb→eq, leb→le, T_not}
 use lib.Dec.{eqb_refl}
-use Rattle.std.specs.List.{AllByRecursion as All}
+use Rattle.std.specs.List.{AllByRecursion}
 use Rattle.policy.specs.Order.{Order, Lawful}
 use Rattle.policy.specs.Rule.{Rule}
 use Rattle.model.specs.declared.answer.Answer.{Answer}
@@ -127,7 +127,7 @@ module _ (o : Order) (law : Lawful o) (h : Rule) (S : State) (q : Request) (soun
   used i s = sound (Lives i) s
 
   -- a new object or container, in the container z and owned by the role r
-  new_entity : (new : Item) → T new.used → new.level ≡ q.l → T (not (S.cards.items q.y).used) → Stands S (Lives q.z) → Entity q.y → T (o.below q.l (S.cards.roles q.r).level) → T (o.below q.l (level S q.z)) → All (Fits o (item q.y new S.cards)) (Lives q.y ∷ Holding q.z q.y ∷ Right q.r q.y Own ∷ [])
+  new_entity : (new : Item) → T new.used → new.level ≡ q.l → T (not (S.cards.items q.y).used) → Stands S (Lives q.z) → Entity q.y → T (o.below q.l (S.cards.roles q.r).level) → T (o.below q.l (level S q.z)) → AllByRecursion (Fits o (item q.y new S.cards)) (Lives q.y ∷ Holding q.z q.y ∷ Right q.r q.y Own ∷ [])
   new_entity new u l free z e r≤ z≤ =
       (rw here u, ((rw there (used q.z z), rw here u, e, rw (here, there, l) z≤), ((rw here u, λ w. rw (here, l) r≤), tt)))
     where
@@ -140,7 +140,7 @@ module _ (o : Order) (law : Lawful o) (h : Rule) (S : State) (q : Request) (soun
   z_lives : T (S.stands (Lives q.z) && (S.cards.items q.z).container) → Stands S (Lives q.z)
   z_lives t = (parts (S.stands (Lives q.z)) _ t).0
 
-  fits_new : (k : Kind) → Met (needs o h S q (Some k)) → All (Fits o ((effect q k).written S.cards)) (effect q k).comes
+  fits_new : (k : Kind) → Met (needs o h S q (Some k)) → AllByRecursion (Fits o ((effect q k).written S.cards)) (effect q k).comes
   fits_new Take m = ((used q.x (its Take refusal.NoSession m).0, its Take refusal.Levels m), tt)
   fits_new Drop m = tt
   fits_new Grant m = ((used q.y (its Grant refusal.WrongItem m).0, (its Grant refusal.Levels m).1), tt)

@@ -2,7 +2,7 @@
 use Rattle.std.proofs.Common.{◌≡◌, ℕ, zero, suc, ◌+◌, ◌-◌, ◌*◌, ◌/◌, ◌%◌, ◌^◌, ◌<◌, ◌≤◌, min, true, false, List, [], ◌∷◌, ◌++◌, map, length, get_or, take, sym, refl, ap, ◌∙◌, subst, ⊎_elim, append_assoc, append-nil, arith}
 use lib.Arith.{digits_div, digits_mod}
 use Rattle.std.specs.Int.Digits.{digits_of, number_from_digits_after, AllBelowBase}
-use Rattle.std.specs.List.{AllByRecursion as All}
+use Rattle.std.specs.List.{AllByRecursion}
 use Rattle.std.proofs.lemmas.Int.Digits.{digits_of_step, number_digits_of, all_below_base_digits_of, first_digits_of}
 use Rattle.std.proofs.ByRecursion.{All-map, All-weaker, All-get_or}
 use Rattle.std.proofs.lemmas.List.{map-append, take_more, take_all}
@@ -23,7 +23,7 @@ after n (c ∷ cs) = after (n * 10 + (c - 48)) cs
 -- digits without a leading zero
 pub record Plain (s : List ℕ) : Type 0 where
   pub some : 0 < length s
-  pub digits : All Digit s
+  pub digits : AllByRecursion Digit s
   pub lead : get_or s 0 0 ≡ 48 → length s ≡ 1
 
 spell : ℕ → List ℕ
@@ -45,7 +45,7 @@ spell_push n c p d =
     let last : 48 + (c - 48) ≡ c = omega arith in
     ap (map (λ k. 48 + k)) (step ∙ (λ i. digits_of 10 (q i) ++ (m i ∷ []))) ∙ map-append (λ k. 48 + k) (digits_of 10 n) ((c - 48) ∷ []) ∙ ap (λ k. map (λ j. 48 + j) (digits_of 10 n) ++ k ∷ []) last
 
-spell_after : (n : ℕ) (s : List ℕ) → 0 < n → All Digit s → spell (after n s) ≡ spell n ++ s
+spell_after : (n : ℕ) (s : List ℕ) → 0 < n → AllByRecursion Digit s → spell (after n s) ≡ spell n ++ s
 spell_after n [] p d = sym (append-nil _)
 spell_after n (c ∷ cs) p d =
     let more : 0 < n * 10 + (c - 48) = omega arith in
@@ -146,11 +146,11 @@ held_more s i limit n v l some d is new =
     let more = ap (after 0) (take_more s i 0 l) ∙ after_push 0 (take i s) (get_or s i 0) in
     omega arith
 
-pub writes : (s : List ℕ) (i v : ℕ) → length s ≤ i → 0 < length s → (get_or s 0 0 ≡ 48 → length s ≤ 1) → All Digit (take i s) → v ≡ min (after 0 (take i s)) (2 ^ 32) → Writes s v
+pub writes : (s : List ℕ) (i v : ℕ) → length s ≤ i → 0 < length s → (get_or s 0 0 ≡ 48 → length s ≤ 1) → AllByRecursion Digit (take i s) → v ≡ min (after 0 (take i s)) (2 ^ 32) → Writes s v
 writes s i v all some lead digits is =
     let e = take_all i s all in
     record {
       value = after 0 s;
-      text = numeral_after s (record { some = some; digits = subst (All Digit) e digits; lead = λ h. let k = lead h in omega arith });
+      text = numeral_after s (record { some = some; digits = subst (AllByRecursion Digit) e digits; lead = λ h. let k = lead h in omega arith });
       held = is ∙ ap (λ t. min (after 0 t) (2 ^ 32)) e;
     }

@@ -1,6 +1,6 @@
 -- The order of lines, as they are held. Assumes nothing.
 use Rattle.std.proofs.Common.{◌≡◌, ℕ, suc, ◌+◌, ◌^◌, ◌<◌, ◌≤◌, Bool, false, ◌&&◌, ◌||◌, eqb, ltb, List, [], ◌∷◌, length, get_or, drop, sym, refl, ap, ◌∙◌, arith}
-use Rattle.std.specs.List.{AllByRecursion as All}
+use Rattle.std.specs.List.{AllByRecursion}
 use Rattle.std.proofs.lemmas.List.{drop_more, drop_all}
 use Rattle.std.proofs.lemmas.Bool.Decides.{nat_tests}
 use Rattle.text.specs.Lines.{below}
@@ -30,7 +30,7 @@ zeros (v ∷ vs) (w ∷ ws) h k =
     let a = h 0 in let b = k 0 in
     first_same v w (below vs ws) (a ∙ sym b) ∙ zeros vs ws (λ j. h (suc j)) (λ j. k (suc j))
 
-pub below_held : (vs ws ns ms : List ℕ) → length vs ≡ length ws → length ns ≡ length ms → length ns ≤ length vs → All (λ n. n < 2 ^ 32) ns → ((j : ℕ) → get_or vs j 0 ≡ capped (get_or ns j 0)) → ((j : ℕ) → get_or ws j 0 ≡ capped (get_or ms j 0)) → below vs ws ≡ below ns ms
+pub below_held : (vs ws ns ms : List ℕ) → length vs ≡ length ws → length ns ≡ length ms → length ns ≤ length vs → AllByRecursion (λ n. n < 2 ^ 32) ns → ((j : ℕ) → get_or vs j 0 ≡ capped (get_or ns j 0)) → ((j : ℕ) → get_or ws j 0 ≡ capped (get_or ms j 0)) → below vs ws ≡ below ns ms
 below_held vs ws [] [] lv ln le small h k = zeros vs ws h k
 below_held vs ws [] (m ∷ ms) lv ln le small h k = absurd (omega arith)
 below_held vs ws (n ∷ ns) [] lv ln le small h k = absurd (omega arith)

@@ -1,6 +1,6 @@
 -- Lines as they are held, tested. Assumes nothing.
 use Rattle.std.proofs.Common.{◌≡◌, ℕ, suc, ◌^◌, ◌<◌, ◌≤◌, Bool, true, false, cond, ◌&&◌, ◌||◌, eqb, ltb, leb, List, [], ◌∷◌, length, get_or, sym, refl, ap, ◌∙◌, arith}
-use Rattle.std.specs.List.{AllByRecursion as All}
+use Rattle.std.specs.List.{AllByRecursion}
 use Rattle.std.proofs.lemmas.Bool.{eqb-true, le-ltb}
 use Rattle.std.proofs.lemmas.Bool.Decides.{nat_tests}
 use Rattle.text.specs.declared.record.Key.{Key}
@@ -90,7 +90,7 @@ pub range_held : (e : Entry) (l : Line) → Keeps e l → entry_in_range e ≡ i
 range_held e l h = (λ i. range_at (h.key i) (h.held 0 i) (h.held 1 i) (h.held 2 i) (h.held 3 i) (h.held 4 i)) ∙ range_capped (key_of l) _ _ _ _ _ ∙ range_line l
 
 -- no number of a line in range is beyond
-pub small : (l : Line) → in_range l ≡ true → All (λ n. n < 2 ^ 32) (numbers l)
+pub small : (l : Line) → in_range l ≡ true → AllByRecursion (λ n. n < 2 ^ 32) (numbers l)
 small (Root a b) h = (grind (arith, nat_tests), (grind (arith, nat_tests), tt))
 small (Gate a) h = (grind (arith, nat_tests), tt)
 small (Account a b c d e) h = (grind (arith, nat_tests), (grind (arith, nat_tests), (grind (arith, nat_tests), (grind (arith, nat_tests), (grind (arith, nat_tests), tt)))))
@@ -127,7 +127,7 @@ and_same : (t a b : Bool) → (t ≡ true → a ≡ b) → t && a ≡ t && b
 and_same true a b h = h refl
 and_same false a b h = refl
 
-pub before_held : (p e : Entry) (l m : Line) → Keeps p l → All (λ n. n < 2 ^ 32) (numbers l) → Keeps e m → entry_before p e ≡ before l m
+pub before_held : (p e : Entry) (l m : Line) → Keeps p l → AllByRecursion (λ n. n < 2 ^ 32) (numbers l) → Keeps e m → entry_before p e ≡ before l m
 before_held p e l m h s k =
     (λ i. ltb (rank (h.key i)) (rank (k.key i)) || (eqb (rank (h.key i)) (rank (k.key i)) && below p.numbers e.numbers))
     ∙ ap (λ t. ltb (rank (key_of l)) (rank (key_of m)) || t)
@@ -140,7 +140,7 @@ before_held p e l m h s k =
 -- the last of the lines, as it is held
 abbrev pub Last : List Line → Entry → Type 0
 Last [] p = Unit {0}
-Last (l ∷ ls) p = Keeps p l × All (λ n. n < 2 ^ 32) (numbers l)
+Last (l ∷ ls) p = Keeps p l × AllByRecursion (λ n. n < 2 ^ 32) (numbers l)
 
 pub follows_held : (ls : List Line) (p e : Entry) (m : Line) → Last ls p → Keeps e m → entry_follows (length ls) p e ≡ follows ls m
 follows_held [] p e m h k = ap (λ t. eqb (rank t) 0) k.key

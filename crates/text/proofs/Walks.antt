@@ -1,6 +1,6 @@
 -- A walk over the lines of a text, step by step. Assumes nothing.
 use Rattle.std.proofs.Common.{◌≡◌, ℕ, zero, suc, ◌+◌, ◌^◌, ◌<◌, true, List, [], ◌∷◌, ◌++◌, length, get_or, sym, refl, ap, ◌∙◌, subst, append_assoc, add-one, arith}
-use Rattle.std.specs.List.{AllByRecursion as All}
+use Rattle.std.specs.List.{AllByRecursion}
 use Rattle.text.specs.declared.reader.Reader.{Reader}
 use Rattle.text.specs.declared.record.Key.{Key}
 use Rattle.text.specs.declared.record.Key.TheVariants as key
@@ -14,13 +14,13 @@ use Rattle.text.proofs.Ranges.{small, range_held}
 use Rattle.text.proofs.Unique.{line_back, line_same, text_first, first_line, line_some, sound_part}
 
 -- an entry of a line in range holds its very numbers
-exact : (vs ns : List ℕ) → All (λ n. n < 2 ^ 32) ns → ((j : ℕ) → get_or vs j 0 ≡ capped (get_or ns j 0)) → (j : ℕ) → (get_or vs j 0 ≡ get_or ns j 0) × (get_or vs j 0 < 2 ^ 32)
+exact : (vs ns : List ℕ) → AllByRecursion (λ n. n < 2 ^ 32) ns → ((j : ℕ) → get_or vs j 0 ≡ capped (get_or ns j 0)) → (j : ℕ) → (get_or vs j 0 ≡ get_or ns j 0) × (get_or vs j 0 < 2 ^ 32)
 exact vs ns s h j = let b = below ns s j in (h j ∙ capped_same _ b, subst (λ k. k < 2 ^ 32) (sym (h j ∙ capped_same _ b)) b)
   where
     capped_same : (n : ℕ) → n < 2 ^ 32 → capped n ≡ n
     capped_same n l = omega arith
 
-    below : (ms : List ℕ) → All (λ n. n < 2 ^ 32) ms → (i : ℕ) → get_or ms i 0 < 2 ^ 32
+    below : (ms : List ℕ) → AllByRecursion (λ n. n < 2 ^ 32) ms → (i : ℕ) → get_or ms i 0 < 2 ^ 32
     below [] a i = omega arith
     below (m ∷ ms) a zero = a.0
     below (m ∷ ms) a (suc i) = below ms a.1 i

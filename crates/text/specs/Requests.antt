@@ -1,11 +1,11 @@
 -- The line of a request. Assumes nothing.
 use Rattle.std.specs.Prelude.{◌≡◌, ℕ, ◌^◌, ◌<◌, List, ◌++◌, length, codes}
-use Rattle.std.specs.List.{AllByRecursion as All}
+use Rattle.std.specs.List.{AllByRecursion}
 use Rattle.text.specs.Lines.{commas}
 
 -- each number is below 2 ^ 32
 abbrev pub Narrow : List ℕ → Type 0
-Narrow ns = All (λ n. n < 2 ^ 32) ns
+Narrow ns = AllByRecursion (λ n. n < 2 ^ 32) ns
 
 -- the line, without a byte 10, is a request of these eight numbers
 pub record Request (line ns : List ℕ) : Type 0 where

@@ -1,6 +1,6 @@
 -- Every worked example holds.
 use Rattle.std.proofs.Common.{◌≡◌, ℕ, T, ◌≢◌, ◌↔◌, List, [], ◌∷◌, Some, sym, refl, subst, inl, inr, arith}
-use Rattle.std.specs.List.{AllByRecursion as All}
+use Rattle.std.specs.List.{AllByRecursion}
 use Rattle.sets.specs.Member.{bit}
 use Rattle.policy.specs.Order.{Order, ladder}
 use Rattle.policy.specs.Rule.{Rule}
@@ -79,7 +79,7 @@ free =
 only_holder : ¬ Elsewhere begun 66 67
 only_holder e = grind arith
 
-table : All (Holds begun) examples
+table : AllByRecursion (Holds begun) examples
 unfolding kind_of bit
 table =
     by_run steps (record { answers = refl; controls = one_control })
@@ -96,4 +96,4 @@ table =
 
 pub worked : Worked
 worked =
-    record { starts = (begun, begins); holds = λ S b. subst (λ (R : State). All (Holds R) examples) (begins_once ladder rule begins b) table; inclusion = (tt, λ t. t) }
+    record { starts = (begun, begins); holds = λ S b. subst (λ (R : State). AllByRecursion (Holds R) examples) (begins_once ladder rule begins b) table; inclusion = (tt, λ t. t) }

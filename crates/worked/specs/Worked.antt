@@ -1,7 +1,7 @@
 -- One pedal, worked: its start text, and requests with the answers that the rules give them.
 use Rattle.std.specs.Prelude.{◌≡◌, ℕ, Bool, false, ◌&&◌, ◌||◌, T, ◌≢◌, ◌↔◌, List, [], ◌∷◌, ◌++◌, map, codes, ◌==◌}
 use Prim.Native.String.{String}
-use Rattle.std.specs.List.{AllByRecursion as All}
+use Rattle.std.specs.List.{AllByRecursion}
 use Rattle.policy.specs.Order.{ladder, badges}
 use Rattle.policy.specs.Rule.{Rule, separation}
 use Rattle.model.specs.declared.answer.Answer.{Answer}
@@ -103,6 +103,6 @@ pub record Worked : Type 0 where
   -- the text is accepted
   pub starts : (S : State) × Begins ladder rule pedal S
   -- and from the state that it begins every example holds
-  pub holds : (S : State) → Begins ladder rule pedal S → All (Holds S) examples
+  pub holds : (S : State) → Begins ladder rule pedal S → AllByRecursion (Holds S) examples
   -- of badges, 1 is at or below 5, and 3 is not
   pub inclusion : T (badges.below 1 5) × ¬ T (badges.below 3 5)

@@ -7,20 +7,20 @@ use Rattle.bench.proofs.Lines.{no_front, no_row, beyond, entry}
 use Rattle.bench.proofs.command.numbers_of.Goals as goal
 use Rattle.std.proofs.lemmas.Bool.Decides.{Decides-eqb}
 
-pub returns-in-err-list : goal.returns-in-err-list
-returns-in-err-list g c =
-    rw c.from-residual.ensures
-    (no_front (strip_prefix_is Decides-eqb c.args.line.now c.args.key.now None c.in-err-list.ensures.cases))
+pub returns-in_err-list : goal.returns-in_err-list
+returns-in_err-list g c =
+    rw c.from_residual.ensures
+    (no_front (strip_prefix_is Decides-eqb c.args.line.now c.args.key.now None c.in_err-list.ensures.cases))
 
-pub returns-in-err-numbers : goal.returns-in-err-numbers
-returns-in-err-numbers g c =
-    let cut = strip_prefix_is Decides-eqb c.args.line.now c.args.key.now (Some c.in-ok-list.list) c.in-ok-list.ensures.cases in
-    rw c.from-residual-in-err-numbers.ensures (no_row cut c.in-err-numbers.ensures)
+pub returns-in_err-numbers : goal.returns-in_err-numbers
+returns-in_err-numbers g c =
+    let cut = strip_prefix_is Decides-eqb c.args.line.now c.args.key.now (Some c.in_ok-list.list) c.in_ok-list.ensures.cases in
+    rw c.from_residual-in_err-numbers.ensures (no_row cut c.in_err-numbers.ensures)
 
 pub returns : goal.returns
 returns g c =
-    let cut = strip_prefix_is Decides-eqb c.args.line.now c.args.key.now (Some c.in-ok-list.list) c.in-ok-list.ensures.cases in
-    let row = c.in-ok-numbers.ensures in
-    weaker c.narrowed.result (beyond {left = c.in-ok-list.list.now} {n = g.row.N} cut row)
-    (λ ns h. subst (Entry c.args.key.now g.row.N c.args.line.now) (sym h.0) (entry {left = c.in-ok-list.list.now} {n = g.row.N} cut row (subst Narrow h.0 h.1)))
+    let cut = strip_prefix_is Decides-eqb c.args.line.now c.args.key.now (Some c.in_ok-list.list) c.in_ok-list.ensures.cases in
+    let row = c.in_ok-numbers.ensures in
+    weaker c.narrowed.result (beyond {left = c.in_ok-list.list.now} {n = g.row.N} cut row)
+    (λ ns h. subst (Entry c.args.key.now g.row.N c.args.line.now) (sym h.0) (entry {left = c.in_ok-list.list.now} {n = g.row.N} cut row (subst Narrow h.0 h.1)))
     c.narrowed.ensures

@@ -4,7 +4,7 @@ use Rattle.bench.proofs.replay.stands_in.Goals as goal
 
 pub loop-i-preserved : goal.loop-i-preserved
 loop-i-preserved c =
-    let row = c.if-not-row-stands.ensures in
+    let row = c.if-not-row_stands.ensures in
     below_more _ _ c.loop-i.invariant (row.item tt, row.pairs tt)
 
 pub returns : goal.returns

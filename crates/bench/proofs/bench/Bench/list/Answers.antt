@@ -2,11 +2,11 @@ use Rattle.std.proofs.Common.{vec_items}
 use Rattle.bench.proofs.Keeping.{accepted}
 use Rattle.bench.proofs.bench.Bench.list.Goals as goal
 
-pub returns-in-ok-keep-each : goal.returns-in-ok-keep-each
-returns-in-ok-keep-each g c =
-    let each = c.in-ok-keep-each.ensures in
+pub returns-in_ok-keep_each : goal.returns-in_ok-keep_each
+returns-in_ok-keep_each g c =
+    let each = c.in_ok-keep_each.ensures in
     let outcome = c.list-answer.ensures.outcome in
     record {
       outcome = rw each.block outcome;
-      given = accepted {gs' = vec_items c.keep-each.new.self.given} (vec_items c.args.self.now.given) outcome c.in-Accepted.is each.given;
+      given = accepted {gs' = vec_items c.keep_each.new.self.given} (vec_items c.args.self.now.given) outcome c.in-Accepted.is each.given;
     }
