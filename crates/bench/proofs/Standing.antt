@@ -1,6 +1,5 @@
 -- What stands, from the tests of each number and each two numbers below 256.
 use Rattle.std.proofs.Common.{◌≡◌, ℕ, ◌<◌, Bool, true, false, not, ◌&&◌, ◌||◌, T, eqb, ltb, arith, lit<}
-use Rattle.std.proofs.lemmas.Bool.{eqb-true}
 use Rattle.model.specs.declared.fact.Fact.{Fact}
 use Rattle.model.specs.declared.fact.Fact.TheVariants.{Lives, Held, Right, Access, Holding, Flow, Control}
 use Rattle.model.specs.declared.fact.Mode.{Mode}

@@ -1,5 +1,5 @@
 -- The lines of a script, and how much of it is left.
-use Rattle.std.specs.Prelude.{◌≡◌, ℕ, List, [], length}
+use Rattle.std.specs.Prelude.{ℕ, List, [], length}
 use Rattle.text.specs.Cut.{Lacks, CutAt}
 use Rattle.bench.specs.declared.script.Script.{Script}
 

@@ -10,7 +10,6 @@ use Rattle.model.specs.declared.fact.Fact.TheVariants.{Lives, Held, Right, Acces
 use Rattle.model.specs.declared.fact.Mode.{Mode}
 use Rattle.model.specs.declared.fact.Mode.TheVariants.{Read, Write, Execute, Own}
 use Rattle.model.specs.Records.{State, rank}
-use Rattle.block.specs.declared.tables.Session.{Session}
 use Rattle.block.specs.declared.block.Block.{Block}
 use Rattle.block.specs.Reading.{state, at, row64, row256, grid, no_account, no_role, no_item, no_session}
 use Rattle.block.proofs.Sound.{Wide64, Wide256, Rows64, Rows256, Grid, SoundTables, SoundRelations}

@@ -1,5 +1,5 @@
 -- Equal facts, facts among others, and what an effect leaves.
-use Rattle.std.proofs.Common.{◌≡◌, ℕ, Bool, true, false, cond, not, ◌&&◌, ◌||◌, T, eqb, ◌⊎◌, List, [], ◌∷◌, sym, refl, ap, ◌∙◌, subst, inl, inr, ⊎_elim, eqb→eq, T_not}
+use Rattle.std.proofs.Common.{◌≡◌, ℕ, Bool, cond, not, ◌&&◌, T, eqb, ◌⊎◌, List, [], ◌∷◌, sym, refl, ap, ◌∙◌, subst, inl, inr, ⊎_elim, eqb→eq, T_not}
 use lib.Dec.{not_T}
 use Rattle.std.specs.List.{AllByRecursion}
 use Rattle.model.specs.declared.fact.Fact.{Fact}

@@ -1,5 +1,5 @@
 -- Flows and control: the least relations that contain what is left from before and obey the seven rules.
-use Rattle.std.specs.Prelude.{◌≡◌, ℕ, Bool, not, T, ◌≢◌, ◌↔◌}
+use Rattle.std.specs.Prelude.{◌≡◌, ℕ, not, T, ◌≢◌, ◌↔◌}
 use Rattle.model.specs.declared.fact.Fact.{Fact}
 use Rattle.model.specs.declared.fact.Fact.TheVariants.{Lives, Access, Flow, Control}
 use Rattle.model.specs.declared.fact.Mode.TheVariants.{Read, Write, Own}

@@ -3,7 +3,6 @@ use Rattle.std.specs.Prelude.{◌≡◌, ℕ, Bool, true, false, not, ◌&&◌, 
 use Rattle.sets.specs.Member.{bit}
 use Rattle.policy.specs.Order.{Order}
 use Rattle.policy.specs.Rule.{Rule}
-use Rattle.model.specs.declared.fact.Fact.{Fact}
 use Rattle.model.specs.declared.fact.Fact.TheVariants.{Lives, Held, Right, Access, Holding}
 use Rattle.model.specs.declared.fact.Mode.{Mode}
 use Rattle.model.specs.declared.fact.Mode.TheVariants.{Read, Write, Execute, Own}
@@ -15,7 +14,7 @@ use Rattle.model.specs.declared.request.Kind.TheVariants.{Take, Drop, Grant, Rev
 use Rattle.model.specs.declared.request.Sort.{Sort}
 use Rattle.model.specs.declared.request.Sort.TheVariants as sort
 use Rattle.model.specs.Records.{Cards, State, Stands, level, Session, root}
-use Rattle.model.specs.Form.{kind_of, mode_of, row, shaped, ranged, knows}
+use Rattle.model.specs.Form.{mode_of, row, shaped, ranged, knows}
 
 -- ## The words of the table
 

@@ -1,5 +1,5 @@
 -- Requests answered in turn.
-use Rattle.std.specs.Prelude.{◌≡◌, ℕ, List, [], ◌∷◌, Some}
+use Rattle.std.specs.Prelude.{◌≡◌, List, [], ◌∷◌, Some}
 use Rattle.policy.specs.Order.{Order}
 use Rattle.policy.specs.Rule.{Rule}
 use Rattle.model.specs.declared.answer.Answer.{Answer}

@@ -1,5 +1,5 @@
 -- What a question asks, and when the answer is yes.
-use Rattle.std.specs.Prelude.{◌≡◌, ℕ, ◌-◌, Bool, true, false, cond, not, ◌&&◌, T, List, [], ◌∷◌, Some, None, Ok, Err, Option, Result, nat_le, slice_index_or}
+use Rattle.std.specs.Prelude.{◌≡◌, ℕ, ◌-◌, Bool, cond, ◌&&◌, T, List, [], ◌∷◌, Some, None, Ok, Err, Option, Result, nat_le, slice_index_or}
 use Rattle.policy.specs.Order.{Order}
 use Rattle.model.specs.declared.answer.Refusal.{Refusal}
 use Rattle.model.specs.declared.answer.Refusal.TheVariants as refusal

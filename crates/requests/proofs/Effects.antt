@@ -5,7 +5,7 @@ use Rattle.model.specs.declared.fact.Fact.{Fact}
 use Rattle.model.specs.declared.request.Kind.{Kind}
 use Rattle.model.specs.declared.request.Request.{Request}
 use Rattle.model.specs.Records.{Cards, State, same, among, about}
-use Rattle.model.specs.Effects.{Effect, left, apply, ends, gone}
+use Rattle.model.specs.Effects.{apply, ends, gone}
 use Rattle.block.specs.declared.block.Block.{Block}
 use Rattle.block.specs.Writing.{adding, removing, forgetting}
 use Rattle.requests.specs.Done.{Does}

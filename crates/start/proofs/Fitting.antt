@@ -6,7 +6,6 @@ use Rattle.policy.specs.Rule.{Rule}
 use Rattle.text.specs.declared.record.Line.{Line}
 use Rattle.text.specs.declared.record.Line.TheVariants as line
 use Rattle.text.specs.Lines.{follows, in_range, entity_in_range, Sound as InOrder}
-use Rattle.model.specs.declared.answer.Refusal.TheVariants as refusal
 use Rattle.model.specs.declared.fact.Fact.{Fact}
 use Rattle.model.specs.declared.fact.Fact.TheVariants.{Lives, Held, Right, Access, Holding}
 use Rattle.model.specs.declared.record.Item.{Item}

@@ -8,7 +8,7 @@ use Rattle.text.specs.declared.record.Line.TheVariants as line
 use Rattle.model.specs.declared.answer.Refusal.TheVariants as refusal
 use Rattle.model.specs.Records.{State, level}
 use Rattle.model.specs.Form.{mode_of}
-use Rattle.model.specs.Needs.{Need, Met, Fails, Reaches, strong}
+use Rattle.model.specs.Needs.{Need, Met, Reaches, strong}
 use Rattle.start.specs.Setup.{again, listed}
 
 -- ## The words of the table

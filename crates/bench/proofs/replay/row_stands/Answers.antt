@@ -1,4 +1,4 @@
-use Rattle.std.proofs.Common.{T, sym, subst, arith, below_more}
+use Rattle.std.proofs.Common.{T, subst, arith, below_more}
 use Rattle.bench.proofs.replay.row_stands.Goals as goal
 
 pub loop-j-preserved : goal.loop-j-preserved

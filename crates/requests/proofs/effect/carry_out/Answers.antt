@@ -1,5 +1,4 @@
 use Rattle.std.proofs.Common.{ℕ, true, false, [], ◌∷◌, ap, ◌∙◌, inl, inr, arith}
-use Rattle.model.specs.declared.fact.Fact.{Fact}
 use Rattle.model.specs.declared.fact.Fact.TheVariants.{Lives, Held, Right, Access, Holding}
 use Rattle.model.specs.declared.fact.Mode.{Mode}
 use Rattle.model.specs.declared.fact.Mode.TheVariants.{Own}
@@ -9,7 +8,7 @@ use Rattle.model.specs.Effects.{took, item, live_item, begins, put}
 use Rattle.model.specs.Form.{mode_of}
 use Rattle.model.proofs.Levels.{bounds}
 use Rattle.block.specs.declared.tables.Session.{Session}
-use Rattle.block.specs.Reading.{state, session_of}
+use Rattle.block.specs.Reading.{state}
 use Rattle.block.specs.Writing.{adding, removing, writing, session_is}
 use Rattle.requests.proofs.Effects.{gives, loses, goes, of_kind}
 use Rattle.requests.proofs.Ranges.{numbers}

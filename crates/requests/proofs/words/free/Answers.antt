@@ -1,5 +1,3 @@
-use Rattle.std.proofs.Common.{rules}
-use Rattle.model.specs.Needs.{Free}
 use Rattle.requests.proofs.words.free.Goals as goal
 
 pub returns-then-is_account_key : goal.returns-then-is_account_key

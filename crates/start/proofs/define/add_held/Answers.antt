@@ -1,7 +1,6 @@
 use Rattle.std.proofs.Common.{ap, ◌∙◌}
-use Rattle.model.specs.declared.fact.Fact.TheVariants.{Lives, Held, Holding}
-use Rattle.model.specs.Effects.{item, took}
-use Rattle.block.specs.Writing.{adding, writing, session_is}
+use Rattle.model.specs.declared.fact.Fact.TheVariants.{Held}
+use Rattle.block.specs.Writing.{adding}
 use Rattle.start.proofs.define.add_held.Goals as goal
 
 pub returns : goal.returns

@@ -4,7 +4,7 @@ use Rattle.model.specs.declared.record.Item.{Item}
 use Rattle.model.specs.Records.{root}
 use Rattle.model.specs.Effects.{item}
 use Rattle.block.specs.Reading.{state}
-use Rattle.block.specs.Writing.{adding, writing, session_is}
+use Rattle.block.specs.Writing.{adding, writing}
 use Rattle.start.proofs.define.add_root.Goals as goal
 
 pub returns : goal.returns

@@ -1,7 +1,6 @@
 use Rattle.std.proofs.Common.{ap, ◌∙◌}
 use Rattle.model.specs.declared.fact.Fact.TheVariants.{Lives}
 use Rattle.model.specs.declared.record.Item.{Item}
-use Rattle.model.specs.Records.{root}
 use Rattle.model.specs.Effects.{item}
 use Rattle.block.specs.Reading.{state}
 use Rattle.block.specs.Writing.{adding, writing, session_is}

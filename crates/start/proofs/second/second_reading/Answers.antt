@@ -1,6 +1,4 @@
-use Rattle.std.proofs.Common.{ℕ, List, ◌∷◌, length, sym, ap, ◌∙◌, subst, add-one}
-use Rattle.policy.specs.Order.{Order}
-use Rattle.policy.specs.Rule.{Rule}
+use Rattle.std.proofs.Common.{List, ◌∷◌, length, sym, ap, ◌∙◌, subst, add-one}
 use Rattle.text.specs.declared.record.Line.{Line}
 use Rattle.model.specs.Records.{State}
 use Rattle.model.specs.Needs.{Met, Fails}
