@@ -11,7 +11,7 @@ use Rattle.policy.specs.Order.{Order}
 use Rattle.model.specs.declared.fact.Fact.TheVariants.{Holding}
 use Rattle.model.specs.Records.{State, Stands, root}
 use Rattle.model.specs.Needs.{Passes, Chain, into}
-use Rattle.model.specs.Needs as goal
+use Rattle.model.specs.Needs as needs
 use Rattle.flows.specs.Within.{In, Out, Within, start, inside, Opened}
 
 pub cut : {S : State} {P A B : ℕ → Type 0} → ((y : ℕ) → A y → Within S P B y) → {y : ℕ} → Within S P A y → Within S P B y
@@ -85,17 +85,17 @@ fewer old new true e kept told =
 
 -- a chain ends at the root or at what a container holds
 pub chain_end : {o : Order} {S : State} {x : ℕ} → ((c y : ℕ) → Stands S (Holding c y) → y < 256) → {y : ℕ} → Chain o S x y → y < 256
-chain_end b goal.start = omega arith
+chain_end b needs.start = omega arith
 chain_end b (into {c = c} {y = y} w q h) = b c y h
 
 -- the chains of a session are what lies within the root through what passes for it
 module _ (o : Order) (S : State) (x : ℕ) (p : Set256) (pass : (c : ℕ) → c < 256 → Decides (in256 p c) (Passes o S x c)) where
   chained : {y : ℕ} → Within S (In p) (λ c. c ≡ root) y → Chain o S x y
-  chained (start e) = subst (Chain o S x) (sym e) goal.start
+  chained (start e) = subst (Chain o S x) (sym e) needs.start
   chained (inside {c = c} w i h) = into (chained w) ((pass c i.0).0 i.1) h
 
   chain_within : ((c y : ℕ) → Stands S (Holding c y) → c < 256) → {y : ℕ} → Chain o S x y → Within S (In p) (λ c. c ≡ root) y
-  chain_within b goal.start = start refl
+  chain_within b needs.start = start refl
   chain_within b (into {c = c} {y = y} w q h) = let l = b c y h in inside (chain_within b w) (l, (pass c l).1 q) h
 
   pub chain_ends : ((c y : ℕ) → Stands S (Holding c y) → c < 256) → (r : Set256) → ((y : ℕ) → In r y ↔ Within S (In p) (λ c. c ≡ root) y) → (y : ℕ) → y < 256
