@@ -5,7 +5,7 @@ use std::path::Path;
 use std::process::Command;
 use std::{env, fs};
 
-const LIBRARY: &str = "../target/staticlib/libhost.a";
+const LIBRARY: &str = "../crates/host/out/libhost.a";
 
 fn main() {
     println!("cargo::rustc-check-cfg=cfg(ours)");

@@ -36,9 +36,9 @@ struct Options {
 
 impl Options {
     fn read(mut arguments: impl Iterator<Item = String>) -> Option<Options> {
-        let bin = Path::new(env!("CARGO_MANIFEST_DIR")).join("../target/bin");
-        let mut options =
-            Options { seed: 1, calls: CALLS, input: None, bench: bin.join("bench"), pedal: bin.join("pedal") };
+        let crates = Path::new(env!("CARGO_MANIFEST_DIR")).join("../crates");
+        let [bench, pedal] = ["bench", "pedal"].map(|name| crates.join(name).join("out").join(name));
+        let mut options = Options { seed: 1, calls: CALLS, input: None, bench, pedal };
         while let Some(name) = arguments.next() {
             if name == "--quick" {
                 options.calls = QUICK_CALLS;
