@@ -13,7 +13,7 @@ use std::time::Instant;
 const USAGE: &str = "usage: compare [--quick] [--seed N] [--calls N] [--input N] [--bench PATH] [--pedal PATH]
 
 Compares the proved programs with the peer on random inputs of a seed, until so many calls are made.
---quick makes fewer calls. --input N writes the N-th input of the seed, counted from 0, to standard output instead.";
+--quick makes fewer calls. --input N writes input N of the seed, counted from 0, to standard output instead.";
 
 /// How many calls are made.
 const CALLS: u64 = 5_000_000;
