@@ -66,7 +66,7 @@ struct Input {
 }
 
 impl Input {
-    /// The n-th input of a seed: every fourth is for `pedal`.
+    /// One input of a seed, by its number: every fourth is for `pedal`.
     fn draw(seed: u64, number: u64) -> Input {
         let random = Random::new(seed, number);
         let for_pedal = number % 4 == 3;

@@ -4,7 +4,7 @@
 pub struct Random(u64);
 
 impl Random {
-    /// The numbers of the n-th input of a seed.
+    /// The numbers of one input of a seed.
     pub fn new(seed: u64, n: u64) -> Random {
         let mut random = Random(seed);
         random.0 = random.word() ^ n;
