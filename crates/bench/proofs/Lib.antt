@@ -1,3 +1,2 @@
 mod Standing
-mod Lines
 mod Keeping

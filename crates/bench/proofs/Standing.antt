@@ -1,14 +1,15 @@
 -- What stands, from the tests of each number and each two numbers below 256.
-use Rattle.std.proofs.Common.{◌≡◌, ℕ, ◌<◌, Bool, true, false, not, ◌&&◌, ◌||◌, T, eqb, ltb, arith, lit<}
+use Rattle.std.proofs.Common.{◌≡◌, ℕ, ◌<◌, Bool, true, false, not, ◌&&◌, ◌||◌, T, eqb, ltb, arith, lit<, MatchBool, subst}
+use Rattle.std.specs.Prelude.{⊤}
 use Rattle.model.specs.declared.fact.Fact.{Fact}
 use Rattle.model.specs.declared.fact.Fact.TheVariants.{Lives, Held, Right, Access, Holding, Flow, Control}
 use Rattle.model.specs.declared.fact.Mode.{Mode}
 use Rattle.model.specs.declared.fact.Mode.TheVariants.{Read, Write, Execute, Own}
 use Rattle.model.specs.Records.{State, Stands, level}
 use Rattle.model.specs.Laws.{StandsIn}
-use Rattle.block.specs.declared.block.Block.{Block}
+use Rattle.block.specs.declared.records.Records.{Records}
 use Rattle.block.specs.Reading.{state}
-use Rattle.bench.specs.Standing.{too, item_too, mode_too, pair_too}
+use Rattle.bench.specs.Standing.{too, item_too, mode_too, pair_too, RowToo}
 
 -- ## Tests
 
@@ -27,6 +28,11 @@ implied false y h t = elim t [ ]
 -- numbers that two tests bound
 both : (a b m n : ℕ) (z : Bool) → T (ltb a m && (ltb b n && z)) → (a < m) × (b < n)
 both a b m n z h = (lit< (front (ltb a m) (ltb b n && z) h), lit< (front (ltb b n) z (back (ltb a m) (ltb b n && z) h)))
+
+-- what one case of a test says
+pub on_true : (P Q : Type 0) (r : Bool) → MatchBool r P Q → T r → P
+on_true P Q true m t = m
+on_true P Q false m t = elim t [ ]
 
 -- ## Pairs
 
@@ -54,10 +60,12 @@ module _ (M N : State) (i j : ℕ) (h : T (pair_too M N i j)) where
 
 -- ## All facts
 
-abbrev pub RowToo : State → State → ℕ → Type 0
-RowToo M N i = T (item_too M N i) × ((j : ℕ) → j < 256 → T (pair_too M N i j))
+pub row : (M N : State) (i : ℕ) (r : Bool) → true ≡ item_too M N i → (T r → (j : ℕ) → j < 256 → T (pair_too M N i j))
+    → MatchBool r (RowToo M N i) ⊤
+row M N i true e p = (subst T e tt, p tt)
+row M N i false e p = tt
 
-module _ (a b : Block) (all : (i : ℕ) → i < 256 → RowToo (state a) (state b) i) where
+module _ (a b : Records) (all : (i : ℕ) → i < 256 → RowToo (state a) (state b) i) where
   pair : (i j : ℕ) → i < 256 → j < 256 → T (pair_too (state a) (state b) i j)
   pair i j l k = (all i l).1 j k
 

@@ -1,6 +1,6 @@
 -- What a bench keeps for a replay.
 use Rattle.std.specs.Prelude.{◌≡◌, List, ◌++◌, vec_items}
-use Rattle.model.specs.declared.answer.Answer.{Answer}
+use Rattle.model.specs.Answers.{Answer}
 use Rattle.model.specs.declared.request.Request.{Request}
 use Rattle.model.specs.Laws.{kept}
 use Rattle.bench.specs.declared.bench.Bench.{Bench}

@@ -7,7 +7,7 @@ ghost use Rattle.bench.specs.Kept.{Keeps};
 
 use crate::replay::{give, gives, stands_in};
 use block::Block;
-use model::{Answer, Request};
+use model::{Refusal, Request, StartRefusal};
 use monitor::record::Record;
 use monitor::{list, request, start};
 use policy::{HouseRule, LevelOrder};
@@ -46,23 +46,23 @@ impl<'a> Bench<'a> {
         order: &O,
         rule: &R,
         text: &'a [u8],
-    ) -> Answer
+    ) -> Result<(), StartRefusal>
         ensures outcome { Start (O.meaning order.now) (R.answers rule.now) self.old.block text.now result self.new.block }
-        ensures text { result ≡ Answer.Accepted → self.new.text.now ≡ text.now }
+        ensures text { OnOk result (self.new.text.now ≡ text.now) }
     {
         let answer = start(&mut self.block, order, rule, text);
-        if let Answer::Accepted = answer {
+        if answer.is_ok() {
             self.text = text;
         }
         answer
     }
 
     /// Keeps an accepted request that gives.
-    fn keep(&mut self, q: &Request, answer: Answer) -> io::Result<()>
+    fn keep(&mut self, q: &Request, answer: Result<(), Refusal>) -> io::Result<()>
         ensures block { self.new.block ≡ self.old.block }
         ensures given { OnOk result (Keeps self.old (q.now ∷ []) (answer ∷ []) self.new) }
     {
-        if matches!(answer, Answer::Accepted) && gives(q) {
+        if answer.is_ok() && gives(q) {
             self.given.push(*q)?;
         }
         Ok(())
@@ -74,7 +74,7 @@ impl<'a> Bench<'a> {
         order: &O,
         rule: &R,
         q: &Request,
-    ) -> io::Result<Answer>
+    ) -> io::Result<Result<(), Refusal>>
         ensures outcome { IfOk result (λ a. Requested (O.meaning order.now) (R.answers rule.now) self.old.block q.now a self.new.block) }
         ensures given { IfOk result (λ a. Keeps self.old (q.now ∷ []) (a ∷ []) self.new) }
     {
@@ -99,12 +99,12 @@ impl<'a> Bench<'a> {
         order: &O,
         rule: &R,
         records: &mut [Record],
-    ) -> io::Result<Answer>
+    ) -> io::Result<Result<(), Refusal>>
         ensures outcome { IfOk result (λ a. Listed (O.meaning order.now) (R.answers rule.now) self.old.block records.old a records.new self.new.block) }
         ensures given { IfOk result (λ a. Keeps self.old (asked a records.old) (told a records.new) self.new) }
     {
         let answer = list(&mut self.block, order, rule, records);
-        if let Answer::Accepted = answer {
+        if answer.is_ok() {
             self.keep_each(records)?;
         }
         Ok(answer)

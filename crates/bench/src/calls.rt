@@ -7,7 +7,7 @@ use crate::command::{Command, request_of};
 use crate::script::Script;
 use crate::stop::Stop;
 use block::Block;
-use model::{Answer, Refusal};
+use model::{Refusal, StartRefusal, answer_number, number_and_line};
 use monitor::record::Record;
 use monitor::topic::Question;
 use monitor::{question, report};
@@ -23,7 +23,7 @@ fn read_record(script: &mut Script<'_>) -> Result<Record, Stop>
     match request_of(line) {
         Some(request) => Ok(Record {
             request,
-            answer: Answer::Accepted,
+            answer: Ok(()),
         }),
         None => Err(script.fault()),
     }
@@ -41,20 +41,20 @@ fn read_records(rt: &HostRuntime, script: &mut Script<'_>, count: u32) -> Result
     Ok(records)
 }
 
-fn print_start(rt: &HostRuntime, answer: Answer) -> io::Result<()> {
-    let (number, line) = (answer.number(), answer.line());
+fn print_start(rt: &HostRuntime, answer: Result<(), StartRefusal>) -> io::Result<()> {
+    let (number, line) = number_and_line(answer);
     println!(rt; "start={number},{line}")
 }
 
-fn print_answer(rt: &HostRuntime, answer: Answer) -> io::Result<()> {
-    let number = answer.number();
+fn print_answer(rt: &HostRuntime, answer: Result<(), Refusal>) -> io::Result<()> {
+    let number = answer_number(answer);
     println!(rt; "answer={number}")
 }
 
-fn print_list(rt: &HostRuntime, answer: Answer, records: &[Record]) -> io::Result<()> {
-    let number = answer.number();
+fn print_list(rt: &HostRuntime, answer: Result<(), Refusal>, records: &[Record]) -> io::Result<()> {
+    let number = answer_number(answer);
     println!(rt; "list={number}")?;
-    if let Answer::Accepted = answer {
+    if answer.is_ok() {
         for record in records {
             print_answer(rt, record.answer)?;
         }
@@ -63,7 +63,7 @@ fn print_list(rt: &HostRuntime, answer: Answer, records: &[Record]) -> io::Resul
 }
 
 fn print_refusal(rt: &HostRuntime, refusal: Refusal) -> io::Result<()> {
-    let number = refusal.number();
+    let number = u8::from(refusal);
     println!(rt; "refused={number}")
 }
 

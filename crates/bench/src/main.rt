@@ -19,7 +19,6 @@ use std::io;
 use std::io::Read;
 use stop::Stop;
 use terms::Terms;
-use text::part::same;
 
 /// Runs the script under the rule that the next line says.
 fn run_under_rule<O: LevelOrder>(
@@ -44,13 +43,11 @@ fn run_under_rule<O: LevelOrder>(
 /// Runs the script under the order that the next line says.
 fn run_under_order(rt: &HostRuntime, script: &mut Script<'_>) -> Result<(), Stop> {
     let line = script.expect_line()?;
-    if same(line, b"order=ladder") {
-        return run_under_rule(rt, &Ladder, script);
+    match line {
+        b"order=ladder" => run_under_rule(rt, &Ladder, script),
+        b"order=badges" => run_under_rule(rt, &Badges, script),
+        _ => Err(script.fault()),
     }
-    if same(line, b"order=badges") {
-        return run_under_rule(rt, &Badges, script);
-    }
-    Err(script.fault())
 }
 
 fn main(rt: HostRuntime) -> io::Result<()> {

@@ -1,12 +1,13 @@
 //! What a replay gives, and whether all that stands in one block stands in another.
-ghost use Rattle.std.specs.Prelude.{◌≡◌, ℕ, ◌<◌, ◌≤◌, ◌&&◌, T, length};
+ghost use Rattle.std.specs.Prelude.{◌≡◌, ℕ, ◌<◌, ◌≤◌, ◌&&◌, T, length, MatchBool, ⊤};
 ghost use Rattle.model.specs.Form.{kind_of};
 ghost use Rattle.model.specs.Laws.{is_giving, StandsIn};
+ghost use Rattle.block.specs.Lent.{block_state};
 ghost use Rattle.block.specs.Reading.{state};
-ghost use Rattle.bench.specs.Standing.{too, item_too, mode_too, pair_too};
+ghost use Rattle.bench.specs.Standing.{too, item_too, mode_too, pair_too, RowToo};
 
-use block::Block;
-use model::{Answer, Fact, Kind, Mode, Request};
+use block::{Block, Records};
+use model::{Fact, Kind, Mode, Request};
 use monitor::request;
 use policy::{HouseRule, LevelOrder};
 
@@ -14,8 +15,8 @@ use policy::{HouseRule, LevelOrder};
 pub(crate) fn gives(q: &Request) -> bool
     ensures { result ≡ is_giving (kind_of q.now.k) }
 {
-    match Kind::of(q.k) {
-        Some(
+    match Kind::try_from(q.k) {
+        Ok(
             Kind::Take
             | Kind::Grant
             | Kind::Object
@@ -39,7 +40,7 @@ pub(crate) fn give<O: LevelOrder, R: HouseRule>(
 {
     let mut accepted = 0;
     for q in requests {
-        if let Answer::Accepted = request(block, order, rule, q) {
+        if request(block, order, rule, q).is_ok() {
             accepted += 1;
         }
     }
@@ -47,28 +48,27 @@ pub(crate) fn give<O: LevelOrder, R: HouseRule>(
 }
 
 /// The fact stands in `b`, if it does in `a`.
-fn stands_too(a: &Block, b: &Block, fact: Fact) -> bool
+fn stands_too(a: &Records, b: &Records, fact: Fact) -> bool
     ensures { result ≡ too (state a.now) (state b.now) fact }
 {
     !a.stands(fact) || b.stands(fact)
 }
 
 /// The item lives in `b` at its level, if it lives in `a`.
-fn item_stands(a: &Block, b: &Block, i: u32) -> bool
+fn item_stands(a: &Records, b: &Records, i: u32) -> bool
     ensures { result ≡ item_too (state a.now) (state b.now) i }
 {
-    !a.stands(Fact::Lives(i))
-        || b.stands(Fact::Lives(i)) && b.tables.item(i).level == a.tables.item(i).level
+    !a.stands(Fact::Lives(i)) || b.stands(Fact::Lives(i)) && b.tables.level(i) == a.tables.level(i)
 }
 
-fn mode_stands(a: &Block, b: &Block, i: u32, j: u32, mode: Mode) -> bool
+fn mode_stands(a: &Records, b: &Records, i: u32, j: u32, mode: Mode) -> bool
     ensures { result ≡ mode_too (state a.now) (state b.now) i j mode }
 {
     stands_too(a, b, Fact::Right(i, j, mode)) && stands_too(a, b, Fact::Access(i, j, mode))
 }
 
 /// What stands between the numbers `i` and `j` in `a` stands in `b`.
-fn pair_stands(a: &Block, b: &Block, i: u32, j: u32) -> bool
+fn pair_stands(a: &Records, b: &Records, i: u32, j: u32) -> bool
     ensures { result ≡ pair_too (state a.now) (state b.now) i j }
 {
     mode_stands(a, b, i, j, Mode::Read)
@@ -81,27 +81,34 @@ fn pair_stands(a: &Block, b: &Block, i: u32, j: u32) -> bool
         && stands_too(a, b, Fact::Control(i, j))
 }
 
-/// What stands in `a` of `i`, and between it and every number, stands in `b`.
-fn row_stands(a: &Block, b: &Block, i: u32) -> bool
-    ensures item { T result → T (item_too (state a.now) (state b.now) i) }
-    ensures pairs { T result → (j : ℕ) → j < 256 → T (pair_too (state a.now) (state b.now) i j) }
+/// What stands in `a` between `i` and every number stands in `b`.
+fn pairs_stand(a: &Records, b: &Records, i: u32) -> bool
+    ensures { T result → (j : ℕ) → j < 256 → T (pair_too (state a.now) (state b.now) i j) }
 {
-    for j in 0..256 {
-        if !pair_stands(a, b, i, j) {
-            return false;
-        }
-    }
-    item_stands(a, b, i)
+    (0..256).all(|j| pair_stands(a, b, i, j))
+}
+
+/// What stands in `a` of `i`, and between it and every number, stands in `b`.
+fn row_stands(a: &Records, b: &Records, i: u32) -> bool
+    ensures { MatchBool result (RowToo (state a.now) (state b.now) i) ⊤ }
+{
+    item_stands(a, b, i) && pairs_stand(a, b, i)
 }
 
 /// Every fact that stands in `a` stands in `b`, and every item that lives in `a` has the same level there.
-pub(crate) fn stands_in(a: &Block, b: &Block) -> bool
+fn all_stands(a: &Records, b: &Records) -> bool
     ensures { T result → StandsIn (state a.now) (state b.now) }
 {
-    for i in 0..256 {
-        if !row_stands(a, b, i) {
-            return false;
-        }
+    (0..256).all(|i| row_stands(a, b, i))
+}
+
+/// The same of two blocks; in a blank one nothing stands.
+pub(crate) fn stands_in(a: &Block, b: &Block) -> bool
+    ensures { T result → StandsIn (block_state a.now) (block_state b.now) }
+{
+    match (&a.records, &b.records) {
+        (Some(a), Some(b)) => all_stands(a, b),
+        (None, _) => true,
+        _ => false,
     }
-    true
 }

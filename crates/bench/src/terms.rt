@@ -2,8 +2,8 @@
 use policy::Pair;
 use std::alloc::Global;
 use std::io;
-use text::numbers::{BEYOND, number};
-use text::part::{cut, same};
+use text::numbers::number;
+use text::part::cut;
 
 /// The terms of a house rule: the pairs of a separation, or the group of a quota and how many of it.
 #[derive(Drop)]
@@ -14,28 +14,18 @@ pub enum Terms {
 
 /// The number that the bytes write, if it is below 2^32.
 fn narrow(field: &[u8]) -> Option<u32> {
-    let n = number(field)?;
-    if n >= BEYOND {
-        return None;
-    }
-    Some(n as u32)
+    u32::try_from(number(field)?).ok()
 }
 
 /// The numbers of a list with commas between.
 fn numbers(heap: Global, list: &[u8]) -> io::Result<Option<Vec<u32>>> {
     let mut numbers = Vec::new(heap);
-    let mut left = list;
-    while let Some((field, rest)) = cut(left, b',') {
+    for field in list.split(|b| *b == b',') {
         let Some(n) = narrow(field) else {
             return Ok(None);
         };
         numbers.push(n)?;
-        left = rest;
     }
-    let Some(last) = narrow(left) else {
-        return Ok(None);
-    };
-    numbers.push(last)?;
     Ok(Some(numbers))
 }
 
@@ -55,10 +45,7 @@ fn pairs(heap: Global, numbers: &[u32]) -> io::Result<Option<Vec<Pair>>> {
 }
 
 fn separation(heap: Global, numbers: &[u32]) -> io::Result<Option<Terms>> {
-    match pairs(heap, numbers)? {
-        Some(pairs) => Ok(Some(Terms::Separation(pairs))),
-        None => Ok(None),
-    }
+    Ok(pairs(heap, numbers)?.map(Terms::Separation))
 }
 
 fn quota(numbers: &[u32]) -> Option<Terms> {
@@ -71,7 +58,7 @@ fn quota(numbers: &[u32]) -> Option<Terms> {
 impl Terms {
     /// The terms that a line, without its byte 10, says.
     pub(crate) fn of(heap: Global, line: &[u8]) -> io::Result<Option<Terms>> {
-        if same(line, b"rule=separation") {
+        if let b"rule=separation" = line {
             return separation(heap, &[]);
         }
         let Some((name, list)) = cut(line, b',') else {
@@ -80,12 +67,10 @@ impl Terms {
         let Some(numbers) = numbers(heap, list)? else {
             return Ok(None);
         };
-        if same(name, b"rule=separation") {
-            return separation(heap, numbers.as_slice());
+        match name {
+            b"rule=separation" => separation(heap, numbers.as_slice()),
+            b"rule=quota" => Ok(quota(numbers.as_slice())),
+            _ => Ok(None),
         }
-        if same(name, b"rule=quota") {
-            return Ok(quota(numbers.as_slice()));
-        }
-        Ok(None)
     }
 }

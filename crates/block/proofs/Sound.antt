@@ -1,15 +1,17 @@
--- What its type tells of a block: how long its tables are, and how wide its sets.
+-- What their type tells of records: how long its tables are, and how wide its sets.
 use Rattle.std.proofs.Common.{◌≡◌, ℕ, zero, suc, ◌^◌, ◌<◌, List, [], ◌∷◌, length, get_or, arith}
 use mir.Val.{Val}
 use denote.RattleType.{RattleType}
 use denote.Laws.{Is}
 use denote.Array.{Array, each}
+use denote.Param.{number}
 use denote.Shadow.{shadow}
 use denote.Struct.Declared.{row}
-use Rattle.sets.specs.declared.set64.Set64.{Set64}
-use Rattle.sets.specs.declared.set256.Set256.{Set256}
-use Rattle.sets.specs.contracts.set64.Set64.{the_type as type64}
-use Rattle.sets.specs.contracts.set256.Set256.{the_type as type256}
+use denote.Struct.Field.{u64-field}
+use Rattle.sets.specs.declared.set.Set.{Set}
+use Rattle.sets.specs.declared.relation.Relation.{Relation}
+use Rattle.sets.specs.contracts.set.Set.{the_type as set-type}
+use Rattle.sets.specs.contracts.relation.Relation.{the_type as relation-type}
 use Rattle.block.specs.declared.tables.Tables.{Tables}
 use Rattle.block.specs.declared.relations.Relations.{Relations}
 use Rattle.block.specs.contracts.tables.Tables.{the_type as tables-type}
@@ -30,46 +32,46 @@ module _ (R : RattleType) (P : R.Denot → Type 0) (one : (x : R.Denot) (vs : Li
   table_is : (n : ℕ) (xs : List R.Denot) (vs : List Val) → Is (Array R n) xs vs → Table P n xs
   table_is n xs vs p = record { long = p.1.0.1; each = λ k d h. each_is xs p.0 p.1.1 k d (omega (arith, p.1.0.1)) }
 
-abbrev pub Wide64 : Set64 → Type 0
-Wide64 s = s.bits < 2 ^ 64
+abbrev Word : ℕ → Type 0
+Word w = w < 2 ^ 64
 
-wide64 : (s : Set64) (vs : List Val) → Is (row type64) s vs → Wide64 s
-wide64 s vs p = omega arith
+word : (w : ℕ) (vs : List Val) → Is u64-field.row w vs → Word w
+word w vs p = omega arith
 
-abbrev pub Wide256 : Set256 → Type 0
-Wide256 s = Table Wide64 4 s.quarters
+abbrev pub Wide : {W : ℕ} → Set W → Type 0
+Wide {W = W} s = Table Word W s.words
 
-wide256 : (s : Set256) (vs : List Val) → Is (row type256) s vs → Wide256 s
-wide256 s vs p = table_is (row type64) Wide64 wide64 4 s.quarters _ p.1.1.0
+abbrev set_row : ℕ → RattleType
+set_row W = row (set-type (number W))
 
-abbrev pub Rows64 : ℕ → List Set64 → Type 0
-Rows64 = Table Wide64
+wide : (W : ℕ) (s : Set W) (vs : List Val) → Is (set_row W) s vs → Wide s
+wide W s vs p = table_is u64-field.row Word word W s.words _ p.1.1.0
 
-rows64 : (n : ℕ) (xs : List Set64) (vs : List Val) → Is (Array (row type64) n) xs vs → Rows64 n xs
-rows64 = table_is (row type64) Wide64 wide64
+abbrev pub Rows : {N W : ℕ} → Relation N W → Type 0
+Rows {N = N} r = Table Wide N r.rows
 
-abbrev pub Rows256 : List Set256 → Type 0
-Rows256 = Table Wide256 256
+abbrev relation_row : ℕ → ℕ → RattleType
+relation_row N W = row (relation-type (number N) (number W))
 
-rows256 : (xs : List Set256) (vs : List Val) → Is (Array (row type256) 256) xs vs → Rows256 xs
-rows256 = table_is (row type256) Wide256 wide256 256
+rows : (N W : ℕ) (r : Relation N W) (vs : List Val) → Is (relation_row N W) r vs → Rows r
+rows N W r vs p = table_is (set_row W) Wide (wide W) N r.rows _ p.1.1.0
 
-abbrev pub Grid : List (List Set64) → Type 0
-Grid = Table (Rows64 256) 4
+abbrev pub Grid : List (Relation 256 1) → Type 0
+Grid = Table Rows 4
 
-grid : (xs : List (List Set64)) (vs : List Val) → Is (Array (Array (row type64) 256) 4) xs vs → Grid xs
-grid = table_is (Array (row type64) 256) (Rows64 256) (rows64 256) 4
+grid : (tables : List (Relation 256 1)) (vs : List Val) → Is (Array (relation_row 256 1) 4) tables vs → Grid tables
+grid = table_is (relation_row 256 1) Rows (rows 256 1) 4
 
 pub record SoundTables (t : Tables) : Type 0 where
   pub accounts : length t.accounts ≡ 16
   pub roles : length t.roles ≡ 32
   pub items : length t.items ≡ 256
   pub sessions : length t.sessions ≡ 64
-  pub live : Wide256 t.live
-  pub held : Rows64 64 t.held
+  pub live : Wide t.live
+  pub held : Rows t.held
   pub rights : Grid t.rights
   pub accesses : Grid t.accesses
-  pub contents : Rows256 t.contents
+  pub contents : Rows t.contents
 
 pub sound_tables : (t : Tables) (vs : List Val) → Is (row tables-type) t vs → SoundTables t
 sound_tables t vs p =
@@ -78,16 +80,16 @@ sound_tables t vs p =
       roles = omega arith;
       items = omega arith;
       sessions = omega arith;
-      live = wide256 t.live _ p.1.1.1.1.1.1.1.0;
-      held = rows64 64 t.held _ p.1.1.1.1.1.1.1.1.0;
+      live = wide 4 t.live _ p.1.1.1.1.1.1.1.0;
+      held = rows 64 1 t.held _ p.1.1.1.1.1.1.1.1.0;
       rights = grid t.rights _ p.1.1.1.1.1.1.1.1.1.0;
       accesses = grid t.accesses _ p.1.1.1.1.1.1.1.1.1.1.0;
-      contents = rows256 t.contents _ p.1.1.1.1.1.1.1.1.1.1.1.0;
+      contents = rows 256 4 t.contents _ p.1.1.1.1.1.1.1.1.1.1.1.0;
     }
 
 pub record SoundRelations (r : Relations) : Type 0 where
-  pub flows : Rows256 r.flows
-  pub control : Rows64 64 r.control
+  pub flows : Rows r.flows
+  pub control : Rows r.control
 
 pub sound_relations : (r : Relations) (vs : List Val) → Is (row relations-type) r vs → SoundRelations r
-sound_relations r vs p = record { flows = rows256 r.flows _ p.1.1.0; control = rows64 64 r.control _ p.1.1.1.0 }
+sound_relations r vs p = record { flows = rows 256 4 r.flows _ p.1.1.0; control = rows 64 1 r.control _ p.1.1.1.0 }

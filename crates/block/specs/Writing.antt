@@ -1,5 +1,5 @@
 -- What a write leaves of the state.
-use Rattle.std.specs.Prelude.{ℕ, Bool, false, cond, not, ◌&&◌, ◌||◌, ◌==◌}
+use Rattle.std.specs.Prelude.{ℕ, Bool, false, cond, not, ◌&&◌, ◌||◌, Some, None, ◌==◌}
 use Rattle.model.specs.declared.fact.Fact.{Fact}
 use Rattle.model.specs.declared.fact.Fact.TheVariants.{Lives, Held, Right, Access, Holding, Flow, Control}
 use Rattle.model.specs.declared.record.Account.{Account}
@@ -7,7 +7,6 @@ use Rattle.model.specs.declared.record.Role.{Role}
 use Rattle.model.specs.Records.{Cards, State, same, about}
 use Rattle.model.specs.Effects.{put}
 use Rattle.block.specs.declared.tables.Session.{Session}
-use Rattle.block.specs.Reading.{no_account, no_role, no_item}
 
 -- ## Facts
 
@@ -31,11 +30,11 @@ gate_is n C =
 
 abbrev pub account_is : ℕ → Account → Cards → Cards
 account_is n new C =
-    record { gate = C.gate; accounts = put n new C.accounts; roles = C.roles; items = C.items; account = C.account; life = C.life }
+    record { gate = C.gate; accounts = put n (Some new) C.accounts; roles = C.roles; items = C.items; account = C.account; life = C.life }
 
 abbrev pub role_is : ℕ → Role → Cards → Cards
 role_is n new C =
-    record { gate = C.gate; accounts = C.accounts; roles = put n new C.roles; items = C.items; account = C.account; life = C.life }
+    record { gate = C.gate; accounts = C.accounts; roles = put n (Some new) C.roles; items = C.items; account = C.account; life = C.life }
 
 -- ## Sessions
 
@@ -54,7 +53,7 @@ session_is n new S =
 abbrev pub empty : State
 empty =
     record {
-      cards = record { gate = 0; accounts = λ n. no_account; roles = λ n. no_role; items = λ n. no_item; account = λ s. 0; life = λ s. 0 };
+      cards = record { gate = 0; accounts = λ n. None; roles = λ n. None; items = λ n. None; account = λ s. 0; life = λ s. 0 };
       program = λ s. 0;
       parent = λ s. 0;
       stands = λ f. false;

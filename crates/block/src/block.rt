@@ -1,11 +1,8 @@
 //! What a host lends.
-use crate::relations::Relations;
-use crate::tables::Tables;
+use crate::records::Records;
 
-/// All records of a monitor. A block is blank until a start is accepted.
+/// The records of a monitor, once a start is accepted.
 #[derive(Drop)]
 pub struct Block {
-    pub started: bool,
-    pub tables: Tables,
-    pub relations: Relations,
+    pub records: Option<Records>,
 }

@@ -1,88 +1,37 @@
 //! All that falls when an item is gone.
-ghost use Rattle.std.specs.Prelude.{◌≡◌, ℕ, ◌<◌, not, ◌&&◌, ◌||◌, [], length, ◌==◌, slice_index_or};
+ghost use Rattle.std.specs.Prelude.{◌≡◌, ℕ, ◌<◌, not, ◌&&◌, ◌||◌, length, ◌==◌, slice_index_or};
+ghost use Rattle.sets.specs.Member.{relates, empty_relation};
 ghost use Rattle.model.specs.Records.{about};
-ghost use Rattle.block.specs.Reading.{state, row64, row256, no_session};
+ghost use Rattle.block.specs.Reading.{state, no_session};
 ghost use Rattle.block.specs.Writing.{forgetting, dropping, untying, leaving, of_item, of_session};
 
-use crate::block::Block;
+use crate::records::Records;
 use crate::tables::Session;
-use sets::{Set64, Set256};
-
-/// Row i has no number.
-fn clear_row64(rows: &mut [Set64], i: u32)
-    requires { i < length rows.old }
-    ensures { (x z : ℕ) → row64 rows.new x z ≡ (not (x == i) && row64 rows.old x z) }
-{
-    rows[i as usize].clear();
-}
-
-/// No row has the number k.
-fn clear_column64(rows: &mut [Set64], k: u32)
-    requires { k < 64 }
-    ensures { (x z : ℕ) → row64 rows.new x z ≡ (not (z == k) && row64 rows.old x z) }
-{
-    for row in rows.iter_mut() {
-        row.remove(k as usize);
-    }
-}
-
-/// Row i has no number, and no row has the number i.
-fn forget64(rows: &mut [Set64], i: u32)
-    requires { (i < length rows.old) × (i < 64) }
-    ensures { (x z : ℕ) → row64 rows.new x z ≡ (not (x == i || z == i) && row64 rows.old x z) }
-{
-    clear_row64(rows, i);
-    clear_column64(rows, i);
-}
-
-/// Row i has no number.
-fn clear_row256(rows: &mut [Set256], i: u32)
-    requires { i < length rows.old }
-    ensures { (x z : ℕ) → row256 rows.new x z ≡ (not (x == i) && row256 rows.old x z) }
-{
-    rows[i as usize].clear();
-}
-
-/// No row has the number k.
-fn clear_column256(rows: &mut [Set256], k: u32)
-    requires { k < 256 }
-    ensures { (x z : ℕ) → row256 rows.new x z ≡ (not (z == k) && row256 rows.old x z) }
-{
-    for row in rows.iter_mut() {
-        row.remove(k as usize);
-    }
-}
-
-/// Row i has no number, and no row has the number i.
-fn forget256(rows: &mut [Set256], i: u32)
-    requires { (i < length rows.old) × (i < 256) }
-    ensures { (x z : ℕ) → row256 rows.new x z ≡ (not (x == i || z == i) && row256 rows.old x z) }
-{
-    clear_row256(rows, i);
-    clear_column256(rows, i);
-}
+use sets::Relation;
 
 /// Row i has no number, at any mode.
-fn clear_rows(tables: &mut [[Set64; 256]], i: u32)
+// Rows and columns are two functions: a proof knows nothing of what a closure over a `&mut` changed.
+fn clear_rows(tables: &mut [Relation<256, 1>], i: usize)
     requires { i < 256 }
-    ensures { (p x z : ℕ) → row64 (slice_index_or tables.new p []) x z ≡ (not (x == i) && row64 (slice_index_or tables.old p []) x z) }
+    ensures { (p x z : ℕ) → relates (slice_index_or tables.new p empty_relation) x z ≡ (not (x == i) && relates (slice_index_or tables.old p empty_relation) x z) }
 {
-    for rows in tables.iter_mut() {
-        clear_row64(rows, i);
+    for table in tables.iter_mut() {
+        table.clear_row(i);
     }
 }
 
 /// No row has the number k, at any mode.
-fn clear_columns(tables: &mut [[Set64; 256]], k: u32)
+fn clear_columns(tables: &mut [Relation<256, 1>], k: usize)
     requires { k < 64 }
-    ensures { (p x z : ℕ) → row64 (slice_index_or tables.new p []) x z ≡ (not (z == k) && row64 (slice_index_or tables.old p []) x z) }
+    ensures { (p x z : ℕ) → relates (slice_index_or tables.new p empty_relation) x z ≡ (not (z == k) && relates (slice_index_or tables.old p empty_relation) x z) }
 {
-    for rows in tables.iter_mut() {
-        clear_column64(rows, k);
+    for table in tables.iter_mut() {
+        table.clear_column(k);
     }
 }
 
 /// What is left of a session when the item is gone, where the item may be the session itself.
+// `itself` is no step to run, but a test of the session's number, which the caller has.
 fn left(session: Session, itself: bool, item: u32, parent: u32) -> Session
     ensures { result ≡ leaving itself item parent session }
 {
@@ -105,42 +54,41 @@ fn left(session: Session, itself: bool, item: u32, parent: u32) -> Session
 fn leave(sessions: &mut [Session], item: u32, parent: u32)
     ensures { (t : ℕ) → t < length sessions.old → slice_index_or sessions.new t no_session ≡ leaving (t == item) item parent (slice_index_or sessions.old t no_session) }
 {
-    for t in 0..sessions.len() {
-        sessions[t] = left(sessions[t], t == item as usize, item, parent);
+    for (t, session) in sessions.iter_mut().enumerate() {
+        *session = left(*session, t == item as usize, item, parent);
     }
 }
 
-impl Block {
+impl Records {
     /// All that the item had as an item falls.
     fn forget_item(&mut self, i: u32)
         requires { i < 256 }
-        ensures state { state self.new ≡ dropping (of_item i) (state self.old) }
-        ensures started { self.new.started ≡ self.old.started }
+        ensures { state self.new ≡ dropping (of_item i) (state self.old) }
     {
         let t = &mut self.tables;
-        t.live.remove(i as usize);
+        let i = i as usize;
+        t.live.remove(i);
         clear_rows(&mut t.rights, i);
         clear_rows(&mut t.accesses, i);
-        forget256(&mut t.contents, i);
-        forget256(&mut self.relations.flows, i);
+        t.contents.forget(i);
+        self.relations.flows.forget(i);
     }
 
     /// All that the item had as a session falls.
     fn forget_session(&mut self, i: u32)
         requires { i < 64 }
-        ensures state { state self.new ≡ dropping (of_session i) (state self.old) }
-        ensures started { self.new.started ≡ self.old.started }
+        ensures { state self.new ≡ dropping (of_session i) (state self.old) }
     {
-        clear_row64(&mut self.tables.held, i);
+        let i = i as usize;
+        self.tables.held.clear_row(i);
         clear_columns(&mut self.tables.accesses, i);
-        forget64(&mut self.relations.control, i);
+        self.relations.control.forget(i);
     }
 
     /// All that the item had falls.
     fn forget_facts(&mut self, i: u32)
         requires { i < 256 }
-        ensures state { state self.new ≡ dropping (about i) (state self.old) }
-        ensures started { self.new.started ≡ self.old.started }
+        ensures { state self.new ≡ dropping (about i) (state self.old) }
     {
         self.forget_item(i);
         if i < 64 {
@@ -151,8 +99,7 @@ impl Block {
     /// No session runs the item any more, and its children get its parent.
     fn forget_ties(&mut self, i: u32)
         requires { 0 < i }
-        ensures state { state self.new ≡ untying i (state self.old) }
-        ensures started { self.new.started ≡ self.old.started }
+        ensures { state self.new ≡ untying i (state self.old) }
     {
         let parent = self.tables.session(i).parent;
         leave(&mut self.tables.sessions, i, parent);
@@ -161,8 +108,7 @@ impl Block {
     /// The item is gone: all that it had falls, no session runs it, and its children get its parent.
     pub fn forget(&mut self, i: u32)
         requires { (0 < i) × (i < 256) }
-        ensures state { state self.new ≡ forgetting i (state self.old) }
-        ensures started { self.new.started ≡ self.old.started }
+        ensures { state self.new ≡ forgetting i (state self.old) }
     {
         self.forget_facts(i);
         self.forget_ties(i);

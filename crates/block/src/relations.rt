@@ -1,8 +1,8 @@
 //! Flows between items and control between sessions, a row for each.
-use sets::{Set64, Set256};
+use sets::Relation;
 
 #[derive(Drop)]
 pub struct Relations {
-    pub flows: [Set256; 256],
-    pub control: [Set64; 64],
+    pub flows: Relation<256, 4>,
+    pub control: Relation<64, 1>,
 }

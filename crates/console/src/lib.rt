@@ -3,7 +3,6 @@
 //! line. Ladder; separation without pairs.
 #![tactic(auto)]
 
-mod input;
 mod session;
 
 pub use session::run;

@@ -1,35 +1,19 @@
 //! One session at the console.
-use crate::input::{next_line, split};
 use block::Block;
-use model::Request;
+use model::{Refusal, Request, answer_number, number_and_line};
 use monitor::{report, request, start};
 use policy::{Ladder, Pair, Separation};
 use std::alloc::{AllocError, Global};
+use text::input::{first_line, split_at_empty_line};
 use text::request::request_numbers;
-
-/// The answer to a line of another form.
-const MALFORMED: u8 = 11;
 
 /// Room for the longest report: 63 times 62 lines of at most 14 bytes.
 const LONGEST_REPORT: usize = 54684;
 
-/// The answer to one line of requests.
-fn answer_line(block: &mut Block, rule: &Separation<'_>, line: &[u8]) -> u8 {
-    let Some(numbers) = request_numbers(line) else {
-        return MALFORMED;
-    };
-    let [k, x, v, r, y, z, l, m] = numbers;
-    let q = Request {
-        k,
-        x,
-        v,
-        r,
-        y,
-        z,
-        l,
-        m,
-    };
-    request(block, &Ladder, rule, &q).number()
+/// The answer to one line of requests; one of another form is refused as a malformed line of a start text is.
+fn answer_line(block: &mut Block, rule: &Separation<'_>, line: &[u8]) -> Result<(), Refusal> {
+    let numbers = request_numbers(line).ok_or(Refusal::LineForm)?;
+    request(block, &Ladder, rule, &Request::from(numbers))
 }
 
 /// Answers each line of requests.
@@ -41,8 +25,8 @@ fn answer_lines(
     out: &mut Vec<u8>,
 ) -> Result<(), AllocError> {
     let mut left = lines;
-    while let Some((line, rest)) = next_line(left) {
-        let answer = answer_line(block, rule, line);
+    while let Some((line, rest)) = first_line(left) {
+        let answer = answer_number(answer_line(block, rule, line));
         let printed = format!(in heap; "answer={answer}\n")?;
         out.extend_from_slice(printed.as_bytes())?;
         left = rest;
@@ -68,10 +52,10 @@ fn serve(
     input: &[u8],
     out: &mut Vec<u8>,
 ) -> Result<(), AllocError> {
-    let (text, requests) = split(input);
+    let (text, requests) = split_at_empty_line(input).unwrap_or((input, &[]));
     let answer = start(block, &Ladder, rule, text);
-    let (number, line) = (answer.number(), answer.line());
-    if number != 0 {
+    if answer.is_err() {
+        let (number, line) = number_and_line(answer);
         let printed = format!(in heap; "start={number},{line}\n")?;
         return out.extend_from_slice(printed.as_bytes());
     }

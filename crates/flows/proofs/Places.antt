@@ -3,10 +3,11 @@ use Rattle.std.proofs.Common.{◌≡◌, ℕ, ◌<◌, Bool, true, false, ◌&&�
 use Rattle.model.specs.declared.fact.Fact.TheVariants.{Access, Holding, Flow, Control}
 use Rattle.model.specs.declared.fact.Mode.{Mode}
 use Rattle.model.specs.Records.{Stands}
-use Rattle.block.specs.declared.block.Block.{Block}
+use Rattle.block.specs.declared.records.Records.{Records}
 use Rattle.block.specs.declared.tables.Tables.{Tables}
 use Rattle.block.specs.declared.relations.Relations.{Relations}
-use Rattle.block.specs.Reading.{row64, row256, grid, state}
+use Rattle.block.specs.Reading.{grid, state}
+use Rattle.sets.specs.Member.{relates}
 use Rattle.flows.specs.Spread.{Has}
 
 pub is_true : (b : Bool) → T b → b ≡ true
@@ -39,14 +40,14 @@ parts n m x y b h =
     let v = apart (ltb x n) (ltb y m && b) h in
     let w = apart (ltb y m) b v.1 in (ltb→lt x n v.0, ltb→lt y m w.0, is_true b w.1)
 
-pub of_flow : (t : Tables) (r : Relations) (a b : ℕ) → Has t r (Flow a b) → (a < 256) × (b < 256) × (row256 r.flows a b ≡ true)
-of_flow t r a b = parts 256 256 a b (row256 r.flows a b)
+pub of_flow : (t : Tables) (r : Relations) (a b : ℕ) → Has t r (Flow a b) → (a < 256) × (b < 256) × (relates r.flows a b ≡ true)
+of_flow t r a b = parts 256 256 a b (relates r.flows a b)
 
-pub of_control : (t : Tables) (r : Relations) (s u : ℕ) → Has t r (Control s u) → (s < 64) × (u < 64) × (row64 r.control s u ≡ true)
-of_control t r s u = parts 64 64 s u (row64 r.control s u)
+pub of_control : (t : Tables) (r : Relations) (s u : ℕ) → Has t r (Control s u) → (s < 64) × (u < 64) × (relates r.control s u ≡ true)
+of_control t r s u = parts 64 64 s u (relates r.control s u)
 
 pub of_access : (t : Tables) (r : Relations) (s e : ℕ) (m : Mode) → Has t r (Access s e m) → (s < 64) × (e < 256) × (grid t.accesses m e s ≡ true)
 of_access t r s e m = parts 64 256 s e (grid t.accesses m e s)
 
-pub of_holding : (b : Block) (c e : ℕ) → Stands (state b) (Holding c e) → (c < 256) × (e < 256) × (row256 b.tables.contents c e ≡ true)
-of_holding b c e = parts 256 256 c e (row256 b.tables.contents c e)
+pub of_holding : (b : Records) (c e : ℕ) → Stands (state b) (Holding c e) → (c < 256) × (e < 256) × (relates b.tables.contents c e ≡ true)
+of_holding b c e = parts 256 256 c e (relates b.tables.contents c e)

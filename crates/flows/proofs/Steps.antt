@@ -1,16 +1,16 @@
 -- Steps towards all that follows.
-use Rattle.std.proofs.Common.{◌≡◌, ℕ, ◌+◌, ◌<◌, ◌≤◌, Bool, false, ◌&&◌, ◌||◌, T, ltb, sym, refl, subst, arith}
-use Rattle.sets.proofs.Steps.{System, still, spread_of, spread_one, weaken, more}
+use Rattle.std.proofs.Common.{◌≡◌, ℕ, ◌+◌, ◌<◌, ◌≤◌, Bool, false, ◌||◌, arith}
+use Rattle.sets.proofs.Steps.{System, still, spread_one, weaken, more}
 use Rattle.model.specs.declared.fact.Fact.{Fact}
 use Rattle.model.specs.declared.fact.Mode.TheVariants.{Read, Write}
 use Rattle.model.specs.Records.{Cards, Session}
 use Rattle.model.specs.Flows.{Derived, before, itself, owner, onward, writing, reading, passing, by_program, by_key, outward, inward}
 use Rattle.block.specs.declared.tables.Tables.{Tables}
 use Rattle.block.specs.declared.relations.Relations.{Relations}
-use Rattle.block.specs.Reading.{standing, cards_of}
-use Rattle.flows.specs.Spread.{Has, Lacks, Follows, Law, Joined, Spread, Row, program_of}
+use Rattle.block.specs.Reading.{cards_of}
+use Rattle.flows.specs.Spread.{Has, Lacks, Follows, Law, Joined, Spread, program_of}
 use Rattle.flows.specs.Rules.{Closed}
-use Rattle.flows.proofs.Places.{placed, parts, of_flow, of_control, of_access}
+use Rattle.flows.proofs.Places.{of_flow, of_control, of_access}
 
 -- what follows from what follows, follows
 pub cut : {C : Cards} {program : ℕ → ℕ} {A B : Fact → Type 0} → ((f : Fact) → A f → Derived C program B f) → {f : Fact} → Derived C program A f
@@ -61,16 +61,6 @@ stays t r law = still (rules t) r (λ x. law (Has t x))
 pub adds : (t : Tables) (old new : Relations) (g : Bool) (f : Fact) (law : Law) → Joined t old new g (λ x. x ≡ f)
     → Follows t (Has t old) f → (Has t new f → law (Has t new)) → Spread t old new g law
 adds t old new g f law = spread_one (rules t) old new g f (λ x. law (Has t x))
-
--- the row of b is added to that of a
-pub adds_row : (t : Tables) (old new : Relations) (g : Bool) (fact : ℕ → ℕ → Fact) (n a b : ℕ) (row : ℕ → Bool) (law : Law)
-    → ((y : ℕ) → standing t old (fact b y) ≡ (ltb b n && (ltb y n && row y))) → b < n → Joined t old new g (Row fact n a row)
-    → ((y : ℕ) → Has t old (fact b y) → Follows t (Has t old) (fact a y))
-    → (((y : ℕ) → Has t new (fact b y) → Has t new (fact a y)) → law (Has t new)) → Spread t old new g law
-adds_row t old new g fact n a b row law is l j so closed =
-    spread_of (rules t) old new g (Row fact n a row) (λ x. law (Has t x)) j
-    (λ f w. subst (Follows t (Has t old)) (sym w.3) (so w.0 (subst T (sym (is w.0)) (placed n n b w.0 (row w.0) l w.1 w.2))))
-    (λ e add. closed (λ y h. let v = parts n n b y (row y) (subst T (is y) (subst (λ (x : Relations). Has t x (fact b y)) e h)) in add (fact a y) (y, v.1, v.2, refl)))
 
 -- ## A loop over the sessions, from 1
 

@@ -1,5 +1,5 @@
 -- Steps towards all that follows, over tables that stay.
-use Rattle.std.specs.Prelude.{◌≡◌, ℕ, ◌<◌, Bool, true, false, T}
+use Rattle.std.specs.Prelude.{◌≡◌, ℕ, Bool, false, T}
 use Rattle.sets.specs.Least
 use Rattle.model.specs.declared.fact.Fact.{Fact}
 use Rattle.model.specs.Flows.{Derived}
@@ -30,7 +30,3 @@ Joined t = Least.Joined (Has t) (Lacks t)
 -- facts that follow are added, and if none is new then the law holds of those that stand
 abbrev pub Spread : Tables → Relations → Relations → Bool → Law → Type 0
 Spread t old new grew law = Least.Spread (Has t) (Lacks t) (Follows t) old new grew (λ r. law (Has t r))
-
--- the facts from a to each number below n that the row has
-abbrev pub Row : (ℕ → ℕ → Fact) → ℕ → ℕ → (ℕ → Bool) → Fact → Type 0
-Row fact n a row f = (y : ℕ) × (y < n) × (row y ≡ true) × (f ≡ fact a y)

@@ -1,29 +1,28 @@
 //! The flows of unguarded sessions through the sessions that they control.
 ghost use Rattle.std.specs.Prelude.{◌≡◌, ℕ, ◌<◌, not};
-ghost use Rattle.model.specs.Records.{Session};
+ghost use Rattle.model.specs.Records.{Session, account_of};
 ghost use Rattle.model.specs.Flows.{Unguarded};
-ghost use Rattle.block.specs.declared.tables.Tables.{Tables as Records};
+ghost use Rattle.block.specs.declared.tables.Tables.{Tables as TheTables};
 ghost use Rattle.block.specs.Reading.{cards_of};
 ghost use Rattle.flows.specs.Spread.{Spread};
 ghost use Rattle.flows.specs.Rules.{Outward, Touch, Acts};
 
-use crate::rows::controls_any;
 use crate::rules::{inward, outward, reading, writing};
 use block::{Relations, Tables};
 
 /// Whether the account of the session `s` is unguarded.
 fn unguarded(tables: &Tables, s: usize) -> bool
     requires { s < 64 }
-    ensures { result ≡ not ((cards_of tables.now).accounts ((cards_of tables.now).account s)).guarded }
+    ensures { result ≡ not (account_of (cards_of tables.now) ((cards_of tables.now).account s)).guarded }
 {
-    let account = tables.session(s as u32).account;
-    !tables.account(account).guarded
+    let account = tables.account(tables.session(s as u32).account);
+    !account.is_some_and(|account| account.guarded)
 }
 
 /// The flows from the sessions that `s` controls.
 fn outward_all(relations: &mut Relations, s: usize) -> bool
     requires { s < 64 }
-    ensures { (tables : Records) → Unguarded (cards_of tables) s → Spread tables relations.old relations.new result (λ P. (t : ℕ) → t < 64 → Outward s t P) }
+    ensures { (tables : TheTables) → Unguarded (cards_of tables) s → Spread tables relations.old relations.new result (λ P. (t : ℕ) → t < 64 → Outward s t P) }
 {
     let mut grew = false;
     for t in 0..64 {
@@ -61,7 +60,7 @@ fn acts(relations: &mut Relations, tables: &Tables, s: usize) -> bool
     requires { Session s }
     ensures { Spread tables.now relations.old relations.new result (λ P. Unguarded (cards_of tables.now) s → Acts s P) }
 {
-    if !controls_any(relations, s) {
+    if relations.control.row(s).is_empty() {
         return false;
     }
     if !unguarded(tables, s) {

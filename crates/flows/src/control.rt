@@ -1,14 +1,13 @@
-//! Who controls whom.
+//! Who controls whom. By a program and by a key are two rules, and two functions.
 ghost use Rattle.std.specs.Prelude.{◌≡◌, ℕ, ◌<◌};
 ghost use Rattle.model.specs.Records.{Session};
 ghost use Rattle.model.specs.Flows.{key};
-ghost use Rattle.block.specs.declared.tables.Tables.{Tables as Records};
+ghost use Rattle.block.specs.declared.tables.Tables.{Tables as TheTables};
 ghost use Rattle.block.specs.Reading.{cards_of};
 ghost use Rattle.flows.specs.Spread.{Spread, program_of};
-ghost use Rattle.flows.specs.Rules.{Owner, ByProgram, ByKey, Controlled, Onward};
+ghost use Rattle.flows.specs.Rules.{Owner, ByProgram, ByKey, Controlled};
 
-use crate::rows::controls_any;
-use crate::rules::{by_flow, itself, lives, onward, owner};
+use crate::rules::{by_flow, itself, lives, owner};
 use block::{Relations, Tables};
 
 /// The program of the session `t`, or 0.
@@ -25,7 +24,7 @@ fn account_key(tables: &Tables, t: usize) -> usize
     ensures { result ≡ key (cards_of tables.now) t }
 {
     let account = tables.session(t as u32).account;
-    tables.account(account).key as usize
+    tables.account(account).map_or(0, |account| account.key) as usize
 }
 
 /// Control of `t` by own access.
@@ -100,32 +99,6 @@ pub(crate) fn controlled_all(relations: &mut Relations, tables: &Tables) -> bool
     let mut grew = false;
     for t in 1..64 {
         grew |= controlled(relations, tables, t);
-    }
-    grew
-}
-
-/// Control that goes on through `t`. Most sessions control none.
-fn onward_through(relations: &mut Relations, t: usize) -> bool
-    requires { t < 64 }
-    ensures { (tables : Records) → Spread tables relations.old relations.new result (λ P. (s : ℕ) → s < 64 → Onward s t P) }
-{
-    if !controls_any(relations, t) {
-        return false;
-    }
-    let mut grew = false;
-    for s in 0..64 {
-        grew |= onward(relations, s, t);
-    }
-    grew
-}
-
-/// Control that goes on. The session between is the outer loop, so that one pass mostly closes control.
-pub(crate) fn onward_all(relations: &mut Relations) -> bool
-    ensures { (tables : Records) → Spread tables relations.old relations.new result (λ P. (t : ℕ) → t < 64 → (s : ℕ) → s < 64 → Onward s t P) }
-{
-    let mut grew = false;
-    for t in 0..64 {
-        grew |= onward_through(relations, t);
     }
     grew
 }

@@ -5,7 +5,6 @@ mod acting;
 mod control;
 mod reach;
 mod rights;
-mod rows;
 mod rules;
 mod settling;
 

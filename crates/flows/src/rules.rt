@@ -1,15 +1,17 @@
 //! The rules of flows and control, each at the numbers where it applies.
+//! A function for each rule, alike as some are: one for two would take the rule as a parameter, and its contract the fact that it gives.
+//! Sessions and items are plain numbers with their range in a `requires`: they come from loops, and specifications speak of numbers.
+//! Relations and tables stay two parameters: one grows, the other is only read, and a struct of both would make each contract say so.
 ghost use Rattle.std.specs.Prelude.{◌≡◌, ℕ, ◌<◌, MatchBool};
 ghost use Rattle.model.specs.declared.fact.Fact.TheVariants.{Lives, Access, Flow, Control};
 ghost use Rattle.model.specs.Records.{Session};
 ghost use Rattle.model.specs.Flows.{Unguarded};
-ghost use Rattle.block.specs.declared.relations.Relations.{Relations as Rows};
-ghost use Rattle.block.specs.declared.tables.Tables.{Tables as Records};
+ghost use Rattle.block.specs.declared.relations.Relations.{Relations as TheRelations};
+ghost use Rattle.block.specs.declared.tables.Tables.{Tables as TheTables};
 ghost use Rattle.block.specs.Reading.{standing, cards_of};
 ghost use Rattle.flows.specs.Spread.{Has, Follows, Spread};
 ghost use Rattle.flows.specs.Rules.{Itself, Owner, Onward, Writing, Reading, Passing, ByFlow, Outward, Inward};
 
-use crate::rows::{add_control, add_controls, add_flow, add_flows, controls, flows_to};
 use block::{Relations, Tables};
 use model::Mode;
 
@@ -17,15 +19,15 @@ use model::Mode;
 fn has_access(tables: &Tables, s: usize, e: usize, mode: Mode) -> bool
     requires s { s < 64 }
     requires e { e < 256 }
-    ensures { (rows : Rows) → result ≡ standing tables.now rows (Access s e mode) }
+    ensures { (relations : TheRelations) → result ≡ standing tables.now relations (Access s e mode) }
 {
-    tables.accesses[mode as usize][e].has(s)
+    tables.accesses[mode as usize].has(e, s)
 }
 
 /// Whether the item is alive.
 pub(crate) fn lives(tables: &Tables, i: usize) -> bool
     requires { i < 256 }
-    ensures { (rows : Rows) → result ≡ standing tables.now rows (Lives i) }
+    ensures { (relations : TheRelations) → result ≡ standing tables.now relations (Lives i) }
 {
     tables.live.has(i)
 }
@@ -36,7 +38,10 @@ fn has_through(relations: &Relations, tables: &Tables, s: usize, e: usize, mode:
     requires e { e < 256 }
     ensures { MatchBool result ((t : ℕ) × Has tables.now relations.now (Control s t) × Has tables.now relations.now (Access t e mode)) ((t : ℕ) → Has tables.now relations.now (Control s t) → Has tables.now relations.now (Access t e mode) → ⊥) }
 {
-    relations.control[s].meets(&tables.accesses[mode as usize][e])
+    relations
+        .control
+        .row(s)
+        .meets(tables.accesses[mode as usize].row(e))
 }
 
 /// A live session controls itself.
@@ -47,7 +52,7 @@ pub(crate) fn itself(relations: &mut Relations, tables: &Tables, s: usize) -> bo
     if !lives(tables, s) {
         return false;
     }
-    add_control(relations, s, s)
+    relations.control.add(s, s)
 }
 
 /// It controls each session that it has own access to.
@@ -59,20 +64,14 @@ pub(crate) fn owner(relations: &mut Relations, tables: &Tables, s: usize, t: usi
     if !has_access(tables, s, t, Mode::Own) {
         return false;
     }
-    add_control(relations, s, t)
+    relations.control.add(s, t)
 }
 
-/// Who controls `t` controls all that `t` controls.
-pub(crate) fn onward(relations: &mut Relations, s: usize, t: usize) -> bool
-    requires s { s < 64 }
-    requires t { t < 64 }
-    ensures { (tables : Records) → Spread tables relations.old relations.new result (Onward s t) }
+/// Control that goes on: who controls `t` controls all that `t` controls.
+pub(crate) fn onward_all(relations: &mut Relations) -> bool
+    ensures { (tables : TheTables) → Spread tables relations.old relations.new result (λ P. (t : ℕ) → t < 64 → (s : ℕ) → s < 64 → Onward s t P) }
 {
-    if !controls(relations, s, t) {
-        return false;
-    }
-    let row = relations.control[t];
-    add_controls(relations, s, &row)
+    relations.control.go_on()
 }
 
 /// What an unguarded session controls writes for it.
@@ -84,7 +83,7 @@ pub(crate) fn writing(relations: &mut Relations, tables: &Tables, s: usize, e: u
     if !has_through(relations, tables, s, e, Mode::Write) {
         return false;
     }
-    add_flow(relations, s, e)
+    relations.flows.add(s, e)
 }
 
 /// It reads for it, too.
@@ -96,20 +95,14 @@ pub(crate) fn reading(relations: &mut Relations, tables: &Tables, s: usize, e: u
     if !has_through(relations, tables, s, e, Mode::Read) {
         return false;
     }
-    add_flow(relations, e, s)
+    relations.flows.add(e, s)
 }
 
 /// Flows go on.
-pub(crate) fn passing(relations: &mut Relations, a: usize, b: usize) -> bool
-    requires a { a < 256 }
-    requires b { b < 256 }
-    ensures { (tables : Records) → Spread tables relations.old relations.new result (Passing a b) }
+pub(crate) fn passing_all(relations: &mut Relations) -> bool
+    ensures { (tables : TheTables) → Spread tables relations.old relations.new result (λ P. (b : ℕ) → b < 256 → (a : ℕ) → a < 256 → Passing a b P) }
 {
-    if !flows_to(relations, a, b) {
-        return false;
-    }
-    let row = relations.flows[b];
-    add_flows(relations, a, &row)
+    relations.flows.go_on()
 }
 
 /// A flow from `a` to `b` gives the session `s` control of `t`, where that follows.
@@ -118,36 +111,36 @@ pub(crate) fn by_flow(relations: &mut Relations, a: usize, b: usize, s: usize, t
     requires b { b < 256 }
     requires s { s < 64 }
     requires t { t < 64 }
-    ensures { (tables : Records) → (Has tables relations.old (Flow a b) → Follows tables (Has tables relations.old) (Control s t)) → Spread tables relations.old relations.new result (ByFlow a b s t) }
+    ensures { (tables : TheTables) → (Has tables relations.old (Flow a b) → Follows tables (Has tables relations.old) (Control s t)) → Spread tables relations.old relations.new result (ByFlow a b s t) }
 {
-    if !flows_to(relations, a, b) {
+    if !relations.flows.has(a, b) {
         return false;
     }
-    add_control(relations, s, t)
+    relations.control.add(s, t)
 }
 
 /// An unguarded session shares the flows from what it controls.
 pub(crate) fn outward(relations: &mut Relations, s: usize, t: usize) -> bool
     requires s { s < 64 }
     requires t { t < 64 }
-    ensures { (tables : Records) → Unguarded (cards_of tables) s → Spread tables relations.old relations.new result (Outward s t) }
+    ensures { (tables : TheTables) → Unguarded (cards_of tables) s → Spread tables relations.old relations.new result (Outward s t) }
 {
-    if !controls(relations, s, t) {
+    if !relations.control.has(s, t) {
         return false;
     }
-    let row = relations.flows[t];
-    add_flows(relations, s, &row)
+    let row = *relations.flows.row(t);
+    relations.flows.join(s, &row)
 }
 
 /// And the flows to it.
 pub(crate) fn inward(relations: &mut Relations, s: usize, e: usize) -> bool
     requires s { s < 64 }
     requires e { e < 256 }
-    ensures { (tables : Records) → Unguarded (cards_of tables) s → Spread tables relations.old relations.new result (Inward s e) }
+    ensures { (tables : TheTables) → Unguarded (cards_of tables) s → Spread tables relations.old relations.new result (Inward s e) }
 {
-    let reached = relations.flows[e].first();
-    if !relations.control[s].meets(&reached) {
+    let reached = relations.flows.row(e).first();
+    if !relations.control.row(s).meets(&reached) {
         return false;
     }
-    add_flow(relations, e, s)
+    relations.flows.add(e, s)
 }

@@ -1,10 +1,8 @@
 -- Nothing at or above a level changes but by a request from there.
-use Rattle.std.proofs.Common.{◌≡◌, ℕ, not, T, eqb, List, [], ◌∷◌, Some, sym, refl, ap, ◌∙◌, subst, inl, inr, ⊎_elim, arith, eqb→eq, T_not}
+use Rattle.std.proofs.Common.{◌≡◌, ℕ, not, T, eqb, List, [], ◌∷◌, Some, Ok, Option, is_some, unwrap_or, sym, refl, ap, ◌∙◌, subst, inl, inr, ⊎_elim, arith, eqb→eq}
 use Rattle.std.specs.List.{AllByRecursion}
 use Rattle.policy.specs.Order.{Order, Lawful}
 use Rattle.policy.specs.Rule.{Rule}
-use Rattle.model.specs.declared.answer.Answer.{Answer}
-use Rattle.model.specs.declared.answer.Answer.TheVariants.{Accepted}
 use Rattle.model.specs.declared.answer.Refusal.{Refusal}
 use Rattle.model.specs.declared.answer.Refusal.TheVariants as refusal
 use Rattle.model.specs.declared.fact.Fact.{Fact}
@@ -14,10 +12,11 @@ use Rattle.model.specs.declared.record.Item.{Item}
 use Rattle.model.specs.declared.request.Request.{Request}
 use Rattle.model.specs.declared.request.Kind.{Kind}
 use Rattle.model.specs.declared.request.Kind.TheVariants.{Take, Drop, Grant, Revoke, Object, Container, Link, Unlink, Delete, Open, Close, Gain, GiveUp}
-use Rattle.model.specs.Records.{Cards, State, Stands, level, Session, Entity, same, about}
+use Rattle.model.specs.Answers.{Answer}
+use Rattle.model.specs.Records.{Cards, State, Stands, no_item, role_of, item_of, level, Session, Entity, same, about}
 use Rattle.model.specs.Form.{row, mode_of}
 use Rattle.model.specs.Needs.{needs, Met}
-use Rattle.model.specs.Effects.{put, effect, apply}
+use Rattle.model.specs.Effects.{item, effect, apply}
 use Rattle.model.specs.Flows.{Derived, before, itself, owner, onward, writing, reading, passing, by_program, by_key, outward, inward}
 use Rattle.model.specs.Runs.{Becomes, Step, accepted, refused, Run, stop, step}
 use Rattle.model.specs.Laws.{Sound, High, Quiet, OfHigh, Unchanged, Isolation}
@@ -42,7 +41,7 @@ plain o L S (inward u c d) w = absurd w
 
 -- an item that is named as new is not at or above L
 abbrev BornLow : Order → ℕ → Cards → Fact → Type 0
-BornLow o L C (Lives i) = ¬ T (o.below L (C.items i).level)
+BornLow o L C (Lives i) = ¬ T (o.below L (item_of C i).level)
 BornLow o L C (Held s r) = Unit {0}
 BornLow o L C (Right r i m) = Unit {0}
 BornLow o L C (Access s i m) = Unit {0}
@@ -72,12 +71,12 @@ module _ (o : Order) (law : Lawful o) (h : Rule) (L : ℕ) (S : State) (q : Requ
   held_under : (c e : ℕ) → Stands S (Holding c e) → UnderX c → UnderX e
   held_under c e s t = law.transitive _ _ _ (sound _ s).3 t
 
-  unborn : (i : ℕ) → T (not (S.cards.items i).used) → ¬ High o L S i
-  unborn i free w = T_not (S.cards.items i).used free (sound (Lives i) w.0)
+  unborn : (i : ℕ) → T (not (is_some (S.cards.items i))) → ¬ High o L S i
+  unborn i free w = rw (sound (Lives i) w.0) at free
 
   -- ## What comes
 
-  new_entity : T (not (S.cards.items q.y).used) → Stands S (Access q.x q.z Write) → AllByRecursion (λ f. ¬ OfHigh o L S f) (Lives q.y ∷ Holding q.z q.y ∷ Right q.r q.y Own ∷ [])
+  new_entity : T (not (is_some (S.cards.items q.y))) → Stands S (Access q.x q.z Write) → AllByRecursion (λ f. ¬ OfHigh o L S f) (Lives q.y ∷ Holding q.z q.y ∷ Right q.r q.y Own ∷ [])
   new_entity free s = (unborn q.y free, (⊎_elim (under q.z (writes q.z s)) (unborn q.y free), (unborn q.y free, tt)))
 
   comes_low : (k : Kind) → Met (needs o h S q (Some k)) → AllByRecursion (λ f. ¬ OfHigh o L S f) (effect q k).comes
@@ -98,9 +97,9 @@ module _ (o : Order) (law : Lawful o) (h : Rule) (L : ℕ) (S : State) (q : Requ
   comes_low Gain m = (λ w. low w.0.1, tt)
   comes_low GiveUp m = tt
 
-  new_low : (i : ℕ) (new : Item) → new.level ≡ q.l → T (o.below q.l (S.cards.roles q.r).level) → T (o.below (S.cards.roles q.r).level (level S q.x)) → ¬ T (o.below L (put i new S.cards.items i).level)
+  new_low : (i : ℕ) (new : Item) → new.level ≡ q.l → T (o.below q.l (role_of S.cards q.r).level) → T (o.below (role_of S.cards q.r).level (level S q.x)) → ¬ T (o.below L (item_of (item i new S.cards) i).level)
   new_low i new l r≤ x≤ t =
-      low (law.transitive _ _ _ (law.transitive _ _ _ (rw (put_new i new S.cards.items, l) at t) r≤) x≤)
+      low (law.transitive _ _ _ (law.transitive _ _ _ (rw (put_new i (Some new) S.cards.items, l) at t) r≤) x≤)
 
   born_low : (k : Kind) → Met (needs o h S q (Some k)) → AllByRecursion (BornLow o L ((effect q k).written S.cards)) (effect q k).comes
   born_low Take m = (tt, tt)
@@ -177,7 +176,7 @@ module _ (o : Order) (law : Lawful o) (h : Rule) (L : ℕ) (S : State) (q : Requ
   module _ (S' : State) (k : Kind) (m : Met (needs o h S q (Some k))) (b : Becomes S q k S') where
     level_same : (i : ℕ) → Stands S (Lives i) → level S' i ≡ level S i
     level_same i s =
-        ap (λ (C : Cards). (C.items i).level) b.cards ∙ ap (λ (a : Item). a.level) ((grows o h S q k m).items i (sound (Lives i) s))
+        ap (λ (C : Cards). (item_of C i).level) b.cards ∙ ap (λ (a : Option Item). (unwrap_or a no_item).level) ((grows o h S q k m).items i (sound (Lives i) s))
 
     fact_same : (f : Fact) → OfHigh o L S f → S'.stands f ≡ S.stands f
     fact_same f w =
@@ -196,7 +195,7 @@ module _ (o : Order) (law : Lawful o) (h : Rule) (L : ℕ) (S : State) (q : Requ
     down : (i : ℕ) → High o L S' i → High o L S i
     down i w = ⊎_elim stood (λ c. absurd (listed (BornLow o L D) (effect q k).comes (born_low k m) (Lives i) c high)) (left_cases (effect q k) S.stands (Lives i) (lived ((b.facts (Lives i)).0 w.0)))
       where
-        high : T (o.below L (D.items i).level)
+        high : T (o.below L (item_of D i).level)
         high = rw b.cards at w.1
 
         lived : {C : Cards} {p : ℕ → ℕ} {B : Fact → Type 0} → Derived C p B (Lives i) → B (Lives i)
@@ -228,7 +227,7 @@ module _ (o : Order) (L : ℕ) where
       record { items = λ i. (λ w. (v.items i).0 ((u.items i).0 w), λ w. (u.items i).1 ((v.items i).1 w)); levels = λ i w. v.levels i ((u.items i).0 w) ∙ u.levels i w; facts = λ f w. v.facts f (still_high u f w) ∙ u.facts f w }
 
 module _ (o : Order) (law : Lawful o) (h : Rule) (L : ℕ) where
-  isolate_step : {S S' : State} {q : Request} {a : Answer} → Sound o S → Step o h S q a S' → (a ≡ Accepted → ¬ High o L S q.x) → Unchanged o L S S'
+  isolate_step : {S S' : State} {q : Request} {a : Answer} → Sound o S → Step o h S q a S' → (a ≡ Ok tt → ¬ High o L S q.x) → Unchanged o L S S'
   isolate_step {S} {S'} {q} s (accepted {k} e m b) n =
       unchanged o law h L S q s (λ t. n refl (m.1.1.1.0.0, t)) S' k m b
   isolate_step {S} s (refused f) n = as_it_was o L S

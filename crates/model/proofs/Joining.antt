@@ -2,8 +2,8 @@
 use Rattle.std.proofs.Common.{List, [], ◌∷◌, ◌++◌}
 use Rattle.policy.specs.Order.{Order}
 use Rattle.policy.specs.Rule.{Rule}
-use Rattle.model.specs.declared.answer.Answer.{Answer}
 use Rattle.model.specs.declared.request.Request.{Request}
+use Rattle.model.specs.Answers.{Answer}
 use Rattle.model.specs.Records.{State}
 use Rattle.model.specs.Runs.{Step, Run, stop, step}
 

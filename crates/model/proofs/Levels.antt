@@ -1,10 +1,9 @@
 -- Facts keep to their level conditions along a run.
-use Rattle.std.proofs.Common.{◌≡◌, ℕ, ◌≤◌, Bool, true, false, cond, not, ◌&&◌, T, eqb, leb, List, [], ◌∷◌, Some, sym, refl, ap, subst, ⊎_elim, eqb→eq, leb→le, T_not}
+use Rattle.std.proofs.Common.{◌≡◌, ℕ, ◌≤◌, Bool, true, false, cond, not, ◌&&◌, T, eqb, leb, List, [], ◌∷◌, Some, None, Option, is_some, IsSome, sym, refl, ap, subst, ⊎_elim, eqb→eq, leb→le}
 use lib.Dec.{eqb_refl}
 use Rattle.std.specs.List.{AllByRecursion}
 use Rattle.policy.specs.Order.{Order, Lawful}
 use Rattle.policy.specs.Rule.{Rule}
-use Rattle.model.specs.declared.answer.Answer.{Answer}
 use Rattle.model.specs.declared.answer.Refusal.{Refusal}
 use Rattle.model.specs.declared.answer.Refusal.TheVariants as refusal
 use Rattle.model.specs.declared.fact.Fact.{Fact}
@@ -15,9 +14,10 @@ use Rattle.model.specs.declared.request.Request.{Request}
 use Rattle.model.specs.declared.request.Row.{Row}
 use Rattle.model.specs.declared.request.Kind.{Kind}
 use Rattle.model.specs.declared.request.Kind.TheVariants.{Take, Drop, Grant, Revoke, Object, Container, Link, Unlink, Delete, Open, Close, Gain, GiveUp}
-use Rattle.model.specs.Records.{Cards, State, Stands, level, Entity}
+use Rattle.model.specs.Answers.{Answer}
+use Rattle.model.specs.Records.{Cards, State, Stands, role_of, item_of, level, Entity}
 use Rattle.model.specs.Form.{row, between, admits, ranged}
-use Rattle.model.specs.Needs.{needs, Met}
+use Rattle.model.specs.Needs.{is_container, needs, Met}
 use Rattle.model.specs.Effects.{put, item, live_item, effect, apply}
 use Rattle.model.specs.Flows.{Derived, before, itself, owner, onward, writing, reading, passing, by_program, by_key, outward, inward}
 use Rattle.model.specs.Runs.{Becomes, Step, accepted, refused, Run, stop, step}
@@ -59,17 +59,17 @@ y_ranged w q t =
 -- the cards of used items stay as they are
 pub record Grown (C D : Cards) : Type 0 where
   pub roles : D.roles ≡ C.roles
-  pub items : (i : ℕ) → T (C.items i).used → D.items i ≡ C.items i
+  pub items : (i : ℕ) → IsSome (C.items i) → D.items i ≡ C.items i
 
-used_stay : (C : Cards) (i : ℕ) (new : Item) → T (not (C.items i).used) → (j : ℕ) → T (C.items j).used → put i new C.items j ≡ C.items j
+used_stay : (C : Cards) (i : ℕ) (new : Item) → T (not (is_some (C.items i))) → (j : ℕ) → IsSome (C.items j) → put i (Some new) C.items j ≡ C.items j
 used_stay C i new free j u =
-    put_old i new C.items j (λ e. T_not (C.items i).used free (subst (λ (n : ℕ). T (C.items n).used) e u))
+    put_old i (Some new) C.items j (λ e. absurd (rw (subst (λ (n : ℕ). IsSome (C.items n)) e u) at free))
 
 module _ (o : Order) (C D : Cards) (g : Grown C D) where
-  used_on : (i : ℕ) → T (C.items i).used → T (D.items i).used
+  used_on : (i : ℕ) → IsSome (C.items i) → IsSome (D.items i)
   used_on i u = rw (g.items i u) u
 
-  below_on : (i j : ℕ) → T (C.items i).used → T (C.items j).used → T (o.below (C.items i).level (C.items j).level) → T (o.below (D.items i).level (D.items j).level)
+  below_on : (i j : ℕ) → IsSome (C.items i) → IsSome (C.items j) → T (o.below (item_of C i).level (item_of C j).level) → T (o.below (item_of D i).level (item_of D j).level)
   below_on i j u v t = rw (g.items i u, g.items j v) t
 
   fits_on : (f : Fact) → Fits o C f → Fits o D f
@@ -102,7 +102,7 @@ module _ (o : Order) (h : Rule) (S : State) (q : Request) where
   need k a m = the (needs o h S q (Some k)) a m
 
   abbrev stays : {D : Cards} → D.roles ≡ S.cards.roles → D.items ≡ S.cards.items → Grown S.cards D
-  stays r e = record { roles = r; items = λ i u. ap (λ (f : ℕ → Item). f i) e }
+  stays r e = record { roles = r; items = λ i u. ap (λ (f : ℕ → Option Item). f i) e }
 
   pub grows : (k : Kind) → Met (needs o h S q (Some k)) → Grown S.cards ((effect q k).written S.cards)
   grows Take m = stays refl refl
@@ -123,21 +123,21 @@ module _ (o : Order) (law : Lawful o) (h : Rule) (S : State) (q : Request) (soun
   its : (k : Kind) (a : Refusal) → Met (needs o h S q (Some k)) → The (needs o h S q (Some k)) a
   its = need o h S q
 
-  used : (i : ℕ) → Stands S (Lives i) → T (S.cards.items i).used
+  used : (i : ℕ) → Stands S (Lives i) → IsSome (S.cards.items i)
   used i s = sound (Lives i) s
 
   -- a new object or container, in the container z and owned by the role r
-  new_entity : (new : Item) → T new.used → new.level ≡ q.l → T (not (S.cards.items q.y).used) → Stands S (Lives q.z) → Entity q.y → T (o.below q.l (S.cards.roles q.r).level) → T (o.below q.l (level S q.z)) → AllByRecursion (Fits o (item q.y new S.cards)) (Lives q.y ∷ Holding q.z q.y ∷ Right q.r q.y Own ∷ [])
-  new_entity new u l free z e r≤ z≤ =
-      (rw here u, ((rw there (used q.z z), rw here u, e, rw (here, there, l) z≤), ((rw here u, λ w. rw (here, l) r≤), tt)))
+  new_entity : (new : Item) → new.level ≡ q.l → T (not (is_some (S.cards.items q.y))) → Stands S (Lives q.z) → Entity q.y → T (o.below q.l (role_of S.cards q.r).level) → T (o.below q.l (level S q.z)) → AllByRecursion (Fits o (item q.y new S.cards)) (Lives q.y ∷ Holding q.z q.y ∷ Right q.r q.y Own ∷ [])
+  new_entity new l free z e r≤ z≤ =
+      (rw here refl, ((rw there (used q.z z), rw here refl, e, rw (here, there, l) z≤), ((rw here refl, λ w. rw (here, l) r≤), tt)))
     where
-      here : put q.y new S.cards.items q.y ≡ new
-      here = put_new q.y new S.cards.items
+      here : put q.y (Some new) S.cards.items q.y ≡ Some new
+      here = put_new q.y (Some new) S.cards.items
 
-      there : put q.y new S.cards.items q.z ≡ S.cards.items q.z
+      there : put q.y (Some new) S.cards.items q.z ≡ S.cards.items q.z
       there = used_stay S.cards q.y new free q.z (used q.z z)
 
-  z_lives : T (S.stands (Lives q.z) && (S.cards.items q.z).container) → Stands S (Lives q.z)
+  z_lives : T (S.stands (Lives q.z) && is_container (item_of S.cards q.z)) → Stands S (Lives q.z)
   z_lives t = (parts (S.stands (Lives q.z)) _ t).0
 
   fits_new : (k : Kind) → Met (needs o h S q (Some k)) → AllByRecursion (Fits o ((effect q k).written S.cards)) (effect q k).comes
@@ -147,27 +147,27 @@ module _ (o : Order) (law : Lawful o) (h : Rule) (S : State) (q : Request) (soun
   fits_new Revoke m = tt
   fits_new Object m =
       let levels = its Object refusal.Levels m in
-      new_entity _ tt refl (its Object refusal.NumberUsed m).0 (z_lives (its Object refusal.WrongItem m).1) (bounds 64 255 q.y (y_ranged (row Object) q (its Object refusal.Range m))) levels.0 levels.2
+      new_entity _ refl (its Object refusal.NumberUsed m).0 (z_lives (its Object refusal.WrongItem m).1) (bounds 64 255 q.y (y_ranged (row Object) q (its Object refusal.Range m))) levels.0 levels.2
   fits_new Container m =
       let levels = its Container refusal.Levels m in
-      new_entity _ tt refl (its Container refusal.NumberUsed m).0 (z_lives (its Container refusal.WrongItem m).1) (bounds 64 255 q.y (y_ranged (row Container) q (its Container refusal.Range m))) levels.0 levels.2
+      new_entity _ refl (its Container refusal.NumberUsed m).0 (z_lives (its Container refusal.WrongItem m).1) (bounds 64 255 q.y (y_ranged (row Container) q (its Container refusal.Range m))) levels.0 levels.2
   fits_new Link m =
       ((used q.z (z_lives (its Link refusal.WrongItem m).1), used q.y (parts (S.stands (Lives q.y)) _ (its Link refusal.WrongItem m).0).0, bounds 64 255 q.y (y_ranged (row Link) q (its Link refusal.Range m)), its Link refusal.Levels m), tt)
   fits_new Unlink m = tt
   fits_new Delete m = tt
   fits_new Open m =
-      (rw here tt, ((rw there x_used, rw here tt, λ w. rw (here, there) (law.transitive _ _ _ levels.0 levels.1)), ((rw here tt, λ w. rw here levels.0), tt)))
+      (rw here refl, ((rw there x_used, rw here refl, λ w. rw (here, there) (law.transitive _ _ _ levels.0 levels.1)), ((rw here refl, λ w. rw here levels.0), tt)))
     where
-      x_used : T (S.cards.items q.x).used
+      x_used : IsSome (S.cards.items q.x)
       x_used = used q.x (its Open refusal.NoSession m).0
 
       levels : The (needs o h S q (Some Open)) refusal.Levels
       levels = its Open refusal.Levels m
 
-      here : put q.z (live_item false q.l 0) S.cards.items q.z ≡ live_item false q.l 0
-      here = put_new q.z (live_item false q.l 0) S.cards.items
+      here : put q.z (Some (live_item None q.l)) S.cards.items q.z ≡ Some (live_item None q.l)
+      here = put_new q.z (Some (live_item None q.l)) S.cards.items
 
-      there : put q.z (live_item false q.l 0) S.cards.items q.x ≡ S.cards.items q.x
+      there : put q.z (Some (live_item None q.l)) S.cards.items q.x ≡ S.cards.items q.x
       there = used_stay S.cards q.z _ (its Open refusal.NumberUsed m).1 q.x x_used
   fits_new Close m = tt
   fits_new Gain m =

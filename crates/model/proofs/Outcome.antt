@@ -1,12 +1,11 @@
 -- The rules leave one outcome.
-use Rattle.std.proofs.Common.{◌≡◌, ℕ, Some, Option, refl, ap, subst}
+use Rattle.std.proofs.Common.{◌≡◌, ℕ, Some, Err, Option, refl, ap, subst}
 use Rattle.policy.specs.Order.{Order}
 use Rattle.policy.specs.Rule.{Rule}
-use Rattle.model.specs.declared.answer.Answer.{Answer}
-use Rattle.model.specs.declared.answer.Answer.TheVariants.{Refused}
 use Rattle.model.specs.declared.answer.Refusal.{Refusal}
 use Rattle.model.specs.declared.request.Request.{Request}
 use Rattle.model.specs.declared.request.Kind.{Kind}
+use Rattle.model.specs.Answers.{Answer}
 use Rattle.model.specs.Records.{State}
 use Rattle.model.specs.Form.{kind_of}
 use Rattle.model.specs.Needs.{needs, Met, Fails}
@@ -28,7 +27,7 @@ module _ (o : Order) (h : Rule) (S : State) (q : Request) where
   once (accepted e m b) (accepted {S'} d n c) = (refl, settles_once b (subst (λ (k : Kind). Becomes S q k S') (one_kind q.k e d) c))
   once (accepted e m b) (refused {a} f) = absurd (not_refused a e m f)
   once (refused {a} f) (accepted e m b) = absurd (not_refused a e m f)
-  once (refused {a = a₁} f) (refused {a = a₂} g) = (ap Refused (fails_once (needs o h S q (kind_of q.k)) a₁ a₂ f g), refl)
+  once (refused {a = a₁} f) (refused {a = a₂} g) = (ap Err (fails_once (needs o h S q (kind_of q.k)) a₁ a₂ f g), refl)
 
 pub one_outcome : (o : Order) (h : Rule) → OneOutcome o h
 one_outcome o h S S₁ S₂ q a b s t = once o h S q s t

@@ -2,7 +2,6 @@
 use Rattle.std.proofs.Common.{◌≡◌, ℕ, Bool, true, false, cond, not, ◌||◌, T, eqb, ◌≢◌, List, [], ◌∷◌, Some, Option, sym, refl, ap, ◌∙◌, subst, subst₂, inl, inr, ⊎_elim}
 use Rattle.policy.specs.Order.{Order}
 use Rattle.policy.specs.Rule.{Rule}
-use Rattle.model.specs.declared.answer.Answer.{Answer}
 use Rattle.model.specs.declared.fact.Fact.{Fact}
 use Rattle.model.specs.declared.fact.Fact.TheVariants.{Lives, Held, Right, Access, Holding}
 use Rattle.model.specs.declared.fact.Mode.{Mode}
@@ -12,9 +11,10 @@ use Rattle.model.specs.declared.request.Kind.{Kind}
 use Rattle.model.specs.declared.request.Kind.TheVariants.{Take, Drop, Grant, Revoke, Object, Container, Link, Unlink, Delete, Open, Close, Gain, GiveUp}
 use Rattle.model.specs.declared.request.Sort.{Sort}
 use Rattle.model.specs.declared.request.Sort.TheVariants as sort
-use Rattle.model.specs.Records.{Cards, State, Stands, among}
+use Rattle.model.specs.Answers.{Answer}
+use Rattle.model.specs.Records.{Cards, State, Stands, item_of, among}
 use Rattle.model.specs.Form.{kind_of, mode_of}
-use Rattle.model.specs.Needs.{Need, Met, needs, further, of_sort, Managed, Unlocked, Entitled, Chain, start, into, Reaches, Vouched}
+use Rattle.model.specs.Needs.{Need, Met, needs, further, is_container, of_sort, Managed, Unlocked, Entitled, Chain, start, into, Reaches, Vouched}
 use Rattle.model.specs.Effects.{Effect, put, ends, gone, effect, apply}
 use Rattle.model.specs.Flows.{Derived, before, Settles}
 use Rattle.model.specs.Runs.{Becomes, Step, accepted, refused, Run, stop, step}
@@ -52,12 +52,12 @@ module _ (o : Order) (h : Rule) (q : Request) (C : Cards) (p p' u u' : ℕ → �
   sort_stays : (s : Sort) (n : ℕ) → T (of_sort M s n) → T (of_sort N s n)
   sort_stays sort.Any n t = tt
   sort_stays sort.Live n t = sub _ t
-  sort_stays sort.Object n t = let w = parts (F (Lives n)) (not (C.items n).container) t in joined _ _ (sub _ w.0) w.1
-  sort_stays sort.Container n t = let w = parts (F (Lives n)) (C.items n).container t in joined _ _ (sub _ w.0) w.1
+  sort_stays sort.Object n t = let w = parts (F (Lives n)) (not (is_container (item_of C n))) t in joined _ _ (sub _ w.0) w.1
+  sort_stays sort.Container n t = let w = parts (F (Lives n)) (is_container (item_of C n)) t in joined _ _ (sub _ w.0) w.1
   sort_stays sort.New n t = tt
 
   managed : (x r : ℕ) → Managed M x r → Managed N x r
-  managed x r e = (e.0, sub _ e.1, e.2, e.3)
+  managed x r e = (e.0, sub _ e.1, e.2)
 
   unlocked : (x r : ℕ) → Unlocked M x r → Unlocked N x r
   unlocked x r w n = sub _ (w n)
@@ -221,4 +221,4 @@ module _ (o : Order) (h : Rule) where
   pub replay : Replay o h
   replay S M N qs ans bs set r w =
       let t = simulate r S N bs (record { cards = refl; programs = λ t n. refl; facts = λ f s. s }) set w in
-      (t.0, record { items = λ i l. (t.1.facts (Lives i) l, ap (λ (C : Cards). (C.items i).level) t.1.cards); facts = t.1.facts })
+      (t.0, record { items = λ i l. (t.1.facts (Lives i) l, ap (λ (C : Cards). (item_of C i).level) t.1.cards); facts = t.1.facts })

@@ -1,9 +1,8 @@
--- What an answer tells a host: the number of its case, and the line that it carries.
-use Rattle.std.specs.Prelude.{ℕ}
+-- The answers, and what each tells a host: its number, and at a start the line at fault.
+use Rattle.std.specs.Prelude.{ℕ, Ok, Err, Result}
 use Rattle.model.specs.declared.answer.Refusal.{Refusal}
 use Rattle.model.specs.declared.answer.Refusal.TheVariants.{Blank, Started, ListTooLong, BufferTooShort, TextTooLong, LineForm, LineOrder, LineRange, LineUndefined, LineLevelUnknown, LineLevels, LineNotReached, LineRule, Form, Range, LevelUnknown, NoSession, WrongItem, NumberUsed, Protected, NotInContainer, OtherHoldings, RoleDenied, KeyLocked, AccessMissing, NotReached, Levels, NoVoucher, RuleDenies}
-use Rattle.model.specs.declared.answer.Answer.{Answer}
-use Rattle.model.specs.declared.answer.Answer.TheVariants.{Accepted, Refused, RefusedAt}
+use Rattle.model.specs.declared.answer.StartRefusal.{StartRefusal}
 
 abbrev pub refusal_number : Refusal → ℕ
 refusal_number Blank = 1
@@ -36,13 +35,25 @@ refusal_number Levels = 50
 refusal_number NoVoucher = 51
 refusal_number RuleDenies = 60
 
--- 0 is accepted; an answer that carries no line tells line 0
-abbrev pub answer_number : Answer → ℕ
-answer_number Accepted = 0
-answer_number (Refused r) = refusal_number r
-answer_number (RefusedAt r line) = refusal_number r
+-- ## The answer to a request or a list
 
-abbrev pub answer_line : Answer → ℕ
-answer_line Accepted = 0
-answer_line (Refused r) = 0
-answer_line (RefusedAt r line) = line
+abbrev pub Answer : Type 0
+Answer = Result (Unit {0}) Refusal
+
+-- 0 is accepted
+abbrev pub answer_number : Answer → ℕ
+answer_number (Ok _) = 0
+answer_number (Err why) = refusal_number why
+
+-- ## The answer to a start
+
+abbrev pub StartAnswer : Type 0
+StartAnswer = Result (Unit {0}) StartRefusal
+
+abbrev pub start_number : StartAnswer → ℕ
+start_number (Ok _) = 0
+start_number (Err why) = refusal_number why.refusal
+
+abbrev pub answer_line : StartAnswer → ℕ
+answer_line (Ok _) = 0
+answer_line (Err why) = why.line

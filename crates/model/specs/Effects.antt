@@ -1,14 +1,15 @@
 -- What an accepted request does: what is written, what falls and what comes.
-use Rattle.std.specs.Prelude.{ℕ, ◌^◌, Bool, true, false, cond, not, ◌&&◌, ◌||◌, List, [], ◌∷◌, ◌==◌}
+use Rattle.std.specs.Prelude.{ℕ, ◌^◌, Bool, false, cond, not, ◌&&◌, ◌||◌, List, [], ◌∷◌, Some, None, Option, ◌==◌}
 use Rattle.std.specs.Int.Bits.{bit_or}
 use Rattle.model.specs.declared.fact.Fact.{Fact}
 use Rattle.model.specs.declared.fact.Fact.TheVariants.{Lives, Held, Right, Access, Holding}
 use Rattle.model.specs.declared.fact.Mode.TheVariants.{Own}
+use Rattle.model.specs.declared.record.Mark.{Mark}
 use Rattle.model.specs.declared.record.Item.{Item}
 use Rattle.model.specs.declared.request.Request.{Request}
 use Rattle.model.specs.declared.request.Kind.{Kind}
 use Rattle.model.specs.declared.request.Kind.TheVariants.{Take, Drop, Grant, Revoke, Object, Container, Link, Unlink, Delete, Open, Close, Gain, GiveUp}
-use Rattle.model.specs.Records.{Cards, State, same, among, about}
+use Rattle.model.specs.Records.{Cards, State, mark_of, same, among, about}
 use Rattle.model.specs.Form.{mode_of}
 
 abbrev pub put {ℓ} : {A : Type ℓ} → ℕ → A → (ℕ → A) → ℕ → A
@@ -27,10 +28,11 @@ pub record Effect : Type 0 where
 -- the item i is now as given
 abbrev pub item : ℕ → Item → Cards → Cards
 item i new C =
-    record { gate = C.gate; accounts = C.accounts; roles = C.roles; items = put i new C.items; account = C.account; life = C.life }
+    record { gate = C.gate; accounts = C.accounts; roles = C.roles; items = put i (Some new) C.items; account = C.account; life = C.life }
 
-abbrev pub live_item : Bool → ℕ → ℕ → Item
-live_item container level mark = record { used = true; container = container; level = level; mark = mark }
+-- the item of a level, with its mark if it is a container
+abbrev pub live_item : Option Mark → ℕ → Item
+live_item container level = record { level = level; container = container }
 
 -- the life record of session s has role r too
 abbrev pub took : ℕ → ℕ → Cards → Cards
@@ -40,7 +42,7 @@ took s r C =
 -- session z begins at the level, with the account of session x and no roles
 abbrev pub begins : ℕ → ℕ → ℕ → Cards → Cards
 begins z x level C =
-    record { gate = C.gate; accounts = C.accounts; roles = C.roles; items = put z (live_item false level 0) C.items; account = put z (C.account x) C.account; life = put z 0 C.life }
+    record { gate = C.gate; accounts = C.accounts; roles = C.roles; items = put z (Some (live_item None level)) C.items; account = put z (C.account x) C.account; life = put z 0 C.life }
 
 -- ## Sorts of effect
 
@@ -63,9 +65,9 @@ effect q Drop = ends (Held q.x q.r)
 effect q Grant = gives (λ C. C) (Right q.r q.y (mode_of q.m) ∷ [])
 effect q Revoke = ends (Right q.r q.y (mode_of q.m))
 effect q Object =
-    gives (item q.y (live_item false q.l 0)) (Lives q.y ∷ Holding q.z q.y ∷ Right q.r q.y Own ∷ [])
+    gives (item q.y (live_item None q.l)) (Lives q.y ∷ Holding q.z q.y ∷ Right q.r q.y Own ∷ [])
 effect q Container =
-    gives (item q.y (live_item true q.l q.m)) (Lives q.y ∷ Holding q.z q.y ∷ Right q.r q.y Own ∷ [])
+    gives (item q.y (live_item (Some (mark_of q.m)) q.l)) (Lives q.y ∷ Holding q.z q.y ∷ Right q.r q.y Own ∷ [])
 effect q Link = gives (λ C. C) (Holding q.z q.y ∷ [])
 effect q Unlink = ends (Holding q.z q.y)
 effect q Delete = gone q.y

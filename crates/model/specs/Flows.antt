@@ -3,15 +3,15 @@ use Rattle.std.specs.Prelude.{◌≡◌, ℕ, not, T, ◌≢◌, ◌↔◌}
 use Rattle.model.specs.declared.fact.Fact.{Fact}
 use Rattle.model.specs.declared.fact.Fact.TheVariants.{Lives, Access, Flow, Control}
 use Rattle.model.specs.declared.fact.Mode.TheVariants.{Read, Write, Own}
-use Rattle.model.specs.Records.{Cards, State, Stands, Session}
+use Rattle.model.specs.Records.{Cards, State, Stands, account_of, Session}
 
 -- a session is unguarded if its account is
 abbrev pub Unguarded : Cards → ℕ → Type 0
-Unguarded C s = Session s × T (not (C.accounts (C.account s)).guarded)
+Unguarded C s = Session s × T (not (account_of C (C.account s)).guarded)
 
 -- the key of a session's account
 abbrev pub key : Cards → ℕ → ℕ
-key C t = (C.accounts (C.account t)).key
+key C t = (account_of C (C.account t)).key
 
 -- The facts that follow from those of Before, with these cards and programs.
 pub data Derived (C : Cards) (program : ℕ → ℕ) (Before : Fact → Type 0) : Fact → Type 0 where

@@ -1,5 +1,5 @@
 -- The form of a request: a known kind, unused numbers 0, each used number in its range.
-use Rattle.std.specs.Prelude.{ℕ, ◌-◌, Bool, true, cond, ◌&&◌, ◌||◌, List, [], ◌∷◌, Some, None, Option, ◌==◌, nat_le, slice_index_or}
+use Rattle.std.specs.Prelude.{ℕ, ◌-◌, Bool, true, cond, ◌&&◌, ◌||◌, List, [], ◌∷◌, Some, None, Option, ◌==◌, nat_le, slice_index_or, slice_index}
 use Rattle.policy.specs.Order.{Order}
 use Rattle.model.specs.declared.fact.Mode.{Mode}
 use Rattle.model.specs.declared.fact.Mode.TheVariants.{Read, Write, Execute, Own}
@@ -11,6 +11,11 @@ use Rattle.model.specs.declared.request.Span.TheVariants.{Unused, Within, Right,
 use Rattle.model.specs.declared.request.Sort.{Sort}
 use Rattle.model.specs.declared.request.Sort.TheVariants as sort
 use Rattle.model.specs.declared.request.Row.{Row}
+
+-- the request of eight numbers, in their order
+abbrev pub request_of : List ℕ → Request
+request_of ns =
+    record { k = slice_index ns 0; x = slice_index ns 1; v = slice_index ns 2; r = slice_index ns 3; y = slice_index ns 4; z = slice_index ns 5; l = slice_index ns 6; m = slice_index ns 7 }
 
 -- the thirteen kinds, from 1 on
 abbrev pub kinds : List Kind
@@ -25,16 +30,16 @@ mode_of m = cond (m == 1) Read (cond (m == 2) Write (cond (m == 4) Execute Own))
 
 -- ## The rows of the table
 
-abbrev role : Span
+abbrev pub role : Span
 role = Within 0 31
 
-abbrev item : Span
+abbrev pub item : Span
 item = Within 1 255
 
 abbrev entity : Span
 entity = Within 64 255
 
-abbrev session : Span
+abbrev pub session : Span
 session = Within 1 63
 
 abbrev level : Span

@@ -1,15 +1,14 @@
 -- The laws over whole runs.
-use Rattle.std.specs.Prelude.{◌≡◌, ℕ, Bool, true, false, cond, T, ◌⊎◌, ◌↔◌, List, [], ◌∷◌, Some, None, Option}
+use Rattle.std.specs.Prelude.{◌≡◌, ℕ, Bool, true, false, cond, T, ◌⊎◌, ◌↔◌, List, [], ◌∷◌, Some, None, Ok, Err, Option, IsSome}
 use Rattle.policy.specs.Order.{Order}
 use Rattle.policy.specs.Rule.{Rule}
-use Rattle.model.specs.declared.answer.Answer.{Answer}
-use Rattle.model.specs.declared.answer.Answer.TheVariants.{Accepted, Refused, RefusedAt}
 use Rattle.model.specs.declared.fact.Fact.{Fact}
 use Rattle.model.specs.declared.fact.Fact.TheVariants.{Lives, Held, Right, Access, Holding, Flow, Control}
 use Rattle.model.specs.declared.request.Request.{Request}
 use Rattle.model.specs.declared.request.Kind.{Kind}
 use Rattle.model.specs.declared.request.Kind.TheVariants.{Take, Drop, Grant, Revoke, Object, Container, Link, Unlink, Delete, Open, Close, Gain, GiveUp}
-use Rattle.model.specs.Records.{Cards, State, Stands, level, Entity}
+use Rattle.model.specs.Answers.{Answer}
+use Rattle.model.specs.Records.{Cards, State, Stands, role_of, item_of, level, Entity}
 use Rattle.model.specs.Form.{kind_of}
 use Rattle.model.specs.Needs.{strong}
 use Rattle.model.specs.Flows.{Derived}
@@ -52,13 +51,12 @@ is_giving (Some k) = giving k
 abbrev pub kept : List Request → List Answer → List Request
 kept [] ans = []
 kept (q ∷ qs) [] = []
-kept (q ∷ qs) (Accepted ∷ ans) = cond (is_giving (kind_of q.k)) (q ∷ kept qs ans) (kept qs ans)
-kept (q ∷ qs) (Refused r ∷ ans) = kept qs ans
-kept (q ∷ qs) (RefusedAt r line ∷ ans) = kept qs ans
+kept (q ∷ qs) (Ok _ ∷ ans) = cond (is_giving (kind_of q.k)) (q ∷ kept qs ans) (kept qs ans)
+kept (q ∷ qs) (Err _ ∷ ans) = kept qs ans
 
 abbrev pub AllAccepted : List Answer → Type 0
 AllAccepted [] = Unit {0}
-AllAccepted (a ∷ ans) = (a ≡ Accepted) × AllAccepted ans
+AllAccepted (a ∷ ans) = (a ≡ Ok tt) × AllAccepted ans
 
 -- every item alive in M lives in N at the same level, and every fact of M stands in N
 pub record StandsIn (M N : State) : Type 0 where
@@ -74,14 +72,14 @@ Replay o h =
 
 -- the level condition of a fact, and that its items were named
 abbrev pub Fits : Order → Cards → Fact → Type 0
-Fits o C (Lives i) = T (C.items i).used
-Fits o C (Held s r) = T (C.items s).used × T (o.below (C.roles r).level (C.items s).level)
+Fits o C (Lives i) = IsSome (C.items i)
+Fits o C (Held s r) = IsSome (C.items s) × T (o.below (role_of C r).level (item_of C s).level)
 Fits o C (Right r i m) =
-    T (C.items i).used × (T (strong m) → T (o.below (C.items i).level (C.roles r).level))
+    IsSome (C.items i) × (T (strong m) → T (o.below (item_of C i).level (role_of C r).level))
 Fits o C (Access s i m) =
-    T (C.items s).used × T (C.items i).used × (T (strong m) → T (o.below (C.items i).level (C.items s).level))
+    IsSome (C.items s) × IsSome (C.items i) × (T (strong m) → T (o.below (item_of C i).level (item_of C s).level))
 Fits o C (Holding c e) =
-    T (C.items c).used × T (C.items e).used × Entity e × T (o.below (C.items e).level (C.items c).level)
+    IsSome (C.items c) × IsSome (C.items e) × Entity e × T (o.below (item_of C e).level (item_of C c).level)
 Fits o C (Flow a b) = Unit {0}
 Fits o C (Control s t) = Unit {0}
 
@@ -95,7 +93,7 @@ High o L S i = Stands S (Lives i) × T (o.below L (level S i))
 -- no accepted request of the run comes from a session at or above L
 abbrev pub Quiet : (o : Order) (h : Rule) (L : ℕ) {S S' : State} {qs : List Request} {ans : List Answer} → Run o h S qs ans S' → Type 0
 Quiet o h L stop = Unit {0}
-Quiet o h L (step {S} {q} {a} s r) = (a ≡ Accepted → ¬ High o L S q.x) × Quiet o h L r
+Quiet o h L (step {S} {q} {a} s r) = (a ≡ Ok tt → ¬ High o L S q.x) × Quiet o h L r
 
 -- the facts of the items at or above L: that they live, the roles that they hold, all rights on them, their accesses to each
 -- other, what they hold and what they lie in

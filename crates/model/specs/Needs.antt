@@ -1,5 +1,5 @@
 -- What a request needs, in the order in which it is tried, each with the refusal given if it fails.
-use Rattle.std.specs.Prelude.{◌≡◌, ℕ, Bool, true, false, not, ◌&&◌, ◌||◌, T, ◌≢◌, ◌⊎◌, List, [], ◌∷◌, ◌++◌, Some, None, Option, ◌==◌}
+use Rattle.std.specs.Prelude.{◌≡◌, ℕ, Bool, true, false, not, ◌&&◌, ◌||◌, T, ◌≢◌, ◌⊎◌, List, [], ◌∷◌, ◌++◌, Some, None, Option, is_some, unwrap_or}
 use Rattle.sets.specs.Member.{bit}
 use Rattle.policy.specs.Order.{Order}
 use Rattle.policy.specs.Rule.{Rule}
@@ -8,22 +8,43 @@ use Rattle.model.specs.declared.fact.Mode.{Mode}
 use Rattle.model.specs.declared.fact.Mode.TheVariants.{Read, Write, Execute, Own}
 use Rattle.model.specs.declared.answer.Refusal.{Refusal}
 use Rattle.model.specs.declared.answer.Refusal.TheVariants as refusal
+use Rattle.model.specs.declared.record.Role.{Role}
+use Rattle.model.specs.declared.record.Item.{Item}
 use Rattle.model.specs.declared.request.Request.{Request}
 use Rattle.model.specs.declared.request.Kind.{Kind}
 use Rattle.model.specs.declared.request.Kind.TheVariants.{Take, Drop, Grant, Revoke, Object, Container, Link, Unlink, Delete, Open, Close, Gain, GiveUp}
 use Rattle.model.specs.declared.request.Sort.{Sort}
 use Rattle.model.specs.declared.request.Sort.TheVariants as sort
-use Rattle.model.specs.Records.{Cards, State, Stands, level, Session, root}
+use Rattle.model.specs.Records.{Cards, State, Stands, account_of, role_of, item_of, plain, level, Session, root}
 use Rattle.model.specs.Form.{mode_of, row, shaped, ranged, knows}
 
 -- ## The words of the table
+
+-- a container has a mark; an object or a session has none
+abbrev pub is_container : Item → Bool
+is_container i = is_some i.container
+
+-- a container may be checked or shared; what is no container is neither
+abbrev pub checked : Item → Bool
+checked i = (unwrap_or i.container plain).checked
+
+abbrev pub shared : Item → Bool
+shared i = (unwrap_or i.container plain).shared
+
+-- an administrative role manages the roles of its set; an ordinary role manages none
+abbrev manages_of : Option ℕ → ℕ → Bool
+manages_of None r = false
+manages_of (Some set) r = bit set r
+
+abbrev pub manages : Role → ℕ → Bool
+manages a r = manages_of a.manages r
 
 -- item n is of the sort
 abbrev pub of_sort : State → Sort → ℕ → Bool
 of_sort S sort.Any n = true
 of_sort S sort.Live n = S.stands (Lives n)
-of_sort S sort.Object n = S.stands (Lives n) && not (S.cards.items n).container
-of_sort S sort.Container n = S.stands (Lives n) && (S.cards.items n).container
+of_sort S sort.Object n = S.stands (Lives n) && not (is_container (item_of S.cards n))
+of_sort S sort.Container n = S.stands (Lives n) && is_container (item_of S.cards n)
 of_sort S sort.New n = true
 
 -- a new item's number was never used
@@ -32,14 +53,14 @@ fresh S sort.Any n = true
 fresh S sort.Live n = true
 fresh S sort.Object n = true
 fresh S sort.Container n = true
-fresh S sort.New n = not (S.cards.items n).used
+fresh S sort.New n = not (is_some (S.cards.items n))
 
 -- y is neither the root nor the gate, and no account's or role's key
 pub record Free (C : Cards) (y : ℕ) : Type 0 where
   pub no_root : y ≢ root
   pub no_gate : y ≢ C.gate
-  pub no_account_key : (a : ℕ) → y ≢ 0 → y ≢ (C.accounts a).key
-  pub no_role_key : (r : ℕ) → y ≢ 0 → y ≢ (C.roles r).key
+  pub no_account_key : (a : ℕ) → y ≢ 0 → y ≢ (account_of C a).key
+  pub no_role_key : (r : ℕ) → y ≢ 0 → y ≢ (role_of C r).key
 
 -- a container other than z holds y
 abbrev pub Elsewhere : State → ℕ → ℕ → Type 0
@@ -52,28 +73,20 @@ pub record Alone (S : State) (z y : ℕ) : Type 0 where
 
 -- x holds an administrative role that manages r
 abbrev pub Managed : State → ℕ → ℕ → Type 0
-Managed S x r =
-    (a : ℕ) × Stands S (Held x a) × T (S.cards.roles a).administrative × T (bit (S.cards.roles a).manages r)
+Managed S x r = (a : ℕ) × Stands S (Held x a) × T (manages (role_of S.cards a) r)
 
 -- x has read access to the key of role r, if it has one
 abbrev pub Unlocked : State → ℕ → ℕ → Type 0
-Unlocked S x r = (S.cards.roles r).key ≢ 0 → Stands S (Access x (S.cards.roles r).key Read)
+Unlocked S x r = (role_of S.cards r).key ≢ 0 → Stands S (Access x (role_of S.cards r).key Read)
 
 -- a role that x holds has the right m on y
 abbrev pub Entitled : State → ℕ → ℕ → Mode → Type 0
 Entitled S x y m = (a : ℕ) × Stands S (Held x a) × Stands S (Right a y m)
 
--- a container's mark is 0, 1 (checked), 2 (shared) or 3 (both)
-abbrev pub checked : ℕ → Bool
-checked mark = mark == 1 || mark == 3
-
-abbrev pub shared : ℕ → Bool
-shared mark = mark == 2 || mark == 3
-
 -- container c passes for x: a held role has execute on it, and its level is at or below x's or it is not checked
 abbrev pub Passes : Order → State → ℕ → ℕ → Type 0
 Passes o S x c =
-    Entitled S x c Execute × T (o.below (level S c) (level S x) || not (checked (S.cards.items c).mark))
+    Entitled S x c Execute × T (o.below (level S c) (level S x) || not (checked (item_of S.cards c)))
 
 -- a chain of holdings leads from the root to the item, and each container before it passes
 pub data Chain (o : Order) (S : State) (x : ℕ) : ℕ → Type 0 where
@@ -91,7 +104,7 @@ Vouched o S v a = a ≡ o.top → Stands S (Access v S.cards.gate Write)
 -- x may take y out of z: it has write access to z, and if z is shared a role that it holds owns y
 pub record MayEmpty (S : State) (x z y : ℕ) : Type 0 where
   pub writes : Stands S (Access x z Write)
-  pub owns : T (shared (S.cards.items z).mark) → Entitled S x y Own
+  pub owns : T (shared (item_of S.cards z)) → Entitled S x y Own
 
 -- rights and accesses that carry a level condition
 abbrev pub strong : Mode → Bool
@@ -125,7 +138,7 @@ module _ (o : Order) (h : Rule) (S : State) (q : Request) where
   lz = level S q.z
 
   abbrev lr : ℕ
-  lr = (S.cards.roles q.r).level
+  lr = (role_of S.cards q.r).level
 
   -- every request begins with its form, its two sessions and its items
   abbrev pub opening : Kind → List Need
@@ -150,7 +163,7 @@ module _ (o : Order) (h : Rule) (S : State) (q : Request) where
   -- then come the needs of its kind
   abbrev pub further : Kind → List Need
   further Take =
-      (refusal.RoleDenied, T (bit (S.cards.accounts (S.cards.account q.x)).takes q.r))
+      (refusal.RoleDenied, T (bit (account_of S.cards (S.cards.account q.x)).takes q.r))
       ∷ (refusal.KeyLocked, Unlocked S q.x q.r)
       ∷ (refusal.Levels, lr ⊑ lx)
       ∷ (refusal.NoVoucher, Vouched o S q.v lr)

@@ -1,12 +1,11 @@
 -- Requests answered in turn.
-use Rattle.std.specs.Prelude.{◌≡◌, List, [], ◌∷◌, Some}
+use Rattle.std.specs.Prelude.{◌≡◌, List, [], ◌∷◌, Some, Ok, Err}
 use Rattle.policy.specs.Order.{Order}
 use Rattle.policy.specs.Rule.{Rule}
-use Rattle.model.specs.declared.answer.Answer.{Answer}
-use Rattle.model.specs.declared.answer.Answer.TheVariants.{Accepted, Refused}
 use Rattle.model.specs.declared.answer.Refusal.{Refusal}
 use Rattle.model.specs.declared.request.Request.{Request}
 use Rattle.model.specs.declared.request.Kind.{Kind}
+use Rattle.model.specs.Answers.{Answer}
 use Rattle.model.specs.Records.{State}
 use Rattle.model.specs.Form.{kind_of}
 use Rattle.model.specs.Needs.{needs, Met, Fails}
@@ -19,8 +18,8 @@ Becomes S q k S' = Settles (apply (effect q k) S) S'
 
 -- the answer to the request q at S, and the state after it
 pub data Step (o : Order) (h : Rule) (S : State) (q : Request) : Answer → State → Type 0 where
-  accepted : {k : Kind} {S' : State} → kind_of q.k ≡ Some k → Met (needs o h S q (Some k)) → Becomes S q k S' → Step o h S q Accepted S'
-  refused : {a : Refusal} → Fails (needs o h S q (kind_of q.k)) a → Step o h S q (Refused a) S
+  accepted : {k : Kind} {S' : State} → kind_of q.k ≡ Some k → Met (needs o h S q (Some k)) → Becomes S q k S' → Step o h S q (Ok tt) S'
+  refused : {a : Refusal} → Fails (needs o h S q (kind_of q.k)) a → Step o h S q (Err a) S
 
 -- requests in turn, with their answers
 pub data Run (o : Order) (h : Rule) : State → List Request → List Answer → State → Type 0 where

@@ -1,9 +1,9 @@
 //! What a call answers.
-ghost use Rattle.std.specs.Prelude.{◌≡◌};
-ghost use Rattle.model.specs.Answers.{refusal_number, answer_number, answer_line};
+ghost use Rattle.std.specs.Prelude.{◌≡◌, true, false, MatchResult};
+ghost use Rattle.model.specs.Answers.{refusal_number, answer_number, start_number, answer_line};
 
 /// Why a call is refused; the number of each case is the one that a host sees.
-#[derive(Clone, Copy, PartialEq, Eq)]
+#[derive(Clone, Copy, Debug, PartialEq, Eq)]
 pub enum Refusal {
     Blank = 1,
     Started = 2,
@@ -36,41 +36,57 @@ pub enum Refusal {
     RuleDenies = 60,
 }
 
-/// The answer to a start, a request or a list: accepted, refused, or refused at a line of the start text.
-#[derive(Clone, Copy, PartialEq, Eq)]
-pub enum Answer {
-    Accepted,
-    Refused(Refusal),
-    RefusedAt(Refusal, usize),
-}
+/// The number that a host sees.
+impl From<Refusal> for u8 {
+    ghost from_gives = { λ refusal n. n ≡ refusal_number refusal };
 
-impl Refusal {
-    /// The number of the refusal.
-    pub fn number(self) -> u8
-        ensures { result ≡ refusal_number self }
-    {
-        self as u8
+    fn from(refusal: Refusal) -> u8 {
+        refusal as u8
     }
 }
 
-impl Answer {
-    /// The number of the answer: 0 is accepted.
-    pub fn number(self) -> u8
-        ensures { result ≡ answer_number self }
-    {
-        match self {
-            Answer::Accepted => 0,
-            Answer::Refused(refusal) | Answer::RefusedAt(refusal, _) => refusal.number(),
-        }
-    }
+/// Why a start is refused, and the line of its text at fault, from 1.
+#[derive(Clone, Copy, Debug, PartialEq, Eq)]
+pub struct StartRefusal {
+    pub refusal: Refusal,
+    /// 0 where no line is at fault, as the format of a printed answer has it.
+    pub line: usize,
+}
 
-    /// The line of the start text at which it was refused, or 0.
-    pub fn line(self) -> usize
-        ensures { result ≡ answer_line self }
-    {
-        match self {
-            Answer::RefusedAt(_, line) => line,
-            _ => 0,
-        }
+/// A refusal for which no line is at fault.
+impl From<Refusal> for StartRefusal {
+    ghost from_gives = { λ refusal start. start ≡ record { refusal = refusal; line = 0 } };
+
+    fn from(refusal: Refusal) -> StartRefusal {
+        StartRefusal { refusal, line: 0 }
+    }
+}
+
+/// A need that fails refuses with the refusal beside it.
+pub fn need(holds: bool, otherwise: Refusal) -> Result<(), Refusal>
+    ensures { MatchResult result (λ met. holds ≡ true) (λ refusal. (holds ≡ false) × (refusal ≡ otherwise)) }
+{
+    if holds { Ok(()) } else { Err(otherwise) }
+}
+
+/// What a host sees of the answer to a request or a list: its number, 0 if it is accepted.
+// Here and below a function, and no `From`: both types are std's.
+pub fn answer_number(answer: Result<(), Refusal>) -> u8
+    ensures { result ≡ answer_number answer }
+{
+    match answer {
+        Ok(()) => 0,
+        Err(refusal) => u8::from(refusal),
+    }
+}
+
+/// What a host sees of the answer to a start: its number and its line, both 0 if it is accepted.
+pub fn number_and_line(answer: Result<(), StartRefusal>) -> (u8, usize)
+    ensures number { result.0 ≡ start_number answer }
+    ensures line { result.1 ≡ answer_line answer }
+{
+    match answer {
+        Ok(()) => (0, 0),
+        Err(start) => (u8::from(start.refusal), start.line),
     }
 }

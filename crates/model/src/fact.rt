@@ -1,9 +1,10 @@
 //! What can stand at one time and fall later.
 ghost use Rattle.std.specs.Prelude.{◌≡◌};
 ghost use Rattle.model.specs.Form.{mode_of};
+ghost use Rattle.model.specs.Needs.{strong};
 
 /// What a right or an access is for. An access is never for executing.
-#[derive(Clone, Copy, PartialEq, Eq)]
+#[derive(Clone, Copy, Debug, PartialEq, Eq)]
 pub enum Mode {
     Read,
     Write,
@@ -11,11 +12,11 @@ pub enum Mode {
     Own,
 }
 
-impl Mode {
-    /// The mode of a right or an access: 1 to read, 2 to write, 4 to execute, and 8, or any other number, to own.
-    pub fn of(m: u32) -> Mode
-        ensures { result ≡ mode_of m }
-    {
+/// The mode of a right or an access: 1 to read, 2 to write, 4 to execute, and 8, or any other number, to own.
+impl From<u32> for Mode {
+    ghost from_gives = { λ m mode. mode ≡ mode_of m };
+
+    fn from(m: u32) -> Mode {
         match m {
             1 => Mode::Read,
             2 => Mode::Write,
@@ -25,8 +26,17 @@ impl Mode {
     }
 }
 
+impl Mode {
+    /// Rights and accesses to write and to own carry a level condition.
+    pub fn is_strong(self) -> bool
+        ensures { result ≡ strong self }
+    {
+        matches!(self, Mode::Write | Mode::Own)
+    }
+}
+
 /// A fact about sessions (1 to 63), entities (64 to 255), items (both) and roles (0 to 31), by their numbers.
-#[derive(Clone, Copy)]
+#[derive(Clone, Copy, Debug, PartialEq, Eq)]
 pub enum Fact {
     /// The item is alive.
     Lives(u32),

@@ -7,8 +7,9 @@ pub mod fact;
 pub mod laws;
 pub mod record;
 pub mod request;
+pub mod span;
 
-pub use answer::{Answer, Refusal};
+pub use answer::{Refusal, StartRefusal, answer_number, need, number_and_line};
 pub use fact::{Fact, Mode};
-pub use record::{Account, Item, Role};
+pub use record::{Account, Item, Mark, Role};
 pub use request::{Kind, Request, Row, Sort, Span};

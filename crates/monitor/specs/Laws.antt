@@ -2,13 +2,13 @@
 use Rattle.std.specs.Prelude.{◌≡◌, ℕ, List, ◌++◌}
 use Rattle.policy.specs.Order.{Order}
 use Rattle.policy.specs.Rule.{Rule}
-use Rattle.model.specs.declared.answer.Answer.{Answer}
 use Rattle.model.specs.declared.request.Request.{Request}
+use Rattle.model.specs.Answers.{Answer}
 use Rattle.model.specs.Records.{State}
 use Rattle.model.specs.Runs.{Run}
 use Rattle.model.specs.Laws.{kept, AllAccepted, StandsIn, Quiet, Unchanged}
 use Rattle.block.specs.declared.block.Block.{Block}
-use Rattle.block.specs.Reading.{state}
+use Rattle.block.specs.Lent.{block_state}
 use Rattle.start.specs.Starts.{Begins}
 use Rattle.monitor.specs.Histories.{History}
 
@@ -16,13 +16,13 @@ use Rattle.monitor.specs.Histories.{History}
 -- by one, accepts them all, and then all that stands in b stands there.
 abbrev pub Replayed : Order → Rule → List ℕ → List Request → List Answer → Block → Type 0
 Replayed o h bytes qs ans b =
-    (fresh N : State) (bs : List Answer) → Begins o h bytes fresh → Run o h fresh (kept qs ans) bs N → AllAccepted bs × StandsIn (state b) N
+    (fresh N : State) (bs : List Answer) → Begins o h bytes fresh → Run o h fresh (kept qs ans) bs N → AllAccepted bs × StandsIn (block_state b) N
 
 -- A level is changed from there alone: over any stretch of the history, which may begin or end between two records of a list,
 -- in which no accepted request comes from a session at or above L, everything at or above L is unchanged.
 abbrev pub Isolated : Order → Rule → List ℕ → List Request → List Answer → Block → Type 0
 Isolated o h bytes qs ans b =
-    (L : ℕ) (fresh P Q : State) (before during after : List Request) (as₁ as₂ as₃ : List Answer) → Begins o h bytes fresh → Run o h fresh before as₁ P → (stretch : Run o h P during as₂ Q) → Run o h Q after as₃ (state b) → before ++ (during ++ after) ≡ qs → as₁ ++ (as₂ ++ as₃) ≡ ans → Quiet o h L stretch → Unchanged o L P Q
+    (L : ℕ) (fresh P Q : State) (before during after : List Request) (as₁ as₂ as₃ : List Answer) → Begins o h bytes fresh → Run o h fresh before as₁ P → (stretch : Run o h P during as₂ Q) → Run o h Q after as₃ (block_state b) → before ++ (during ++ after) ≡ qs → as₁ ++ (as₂ ++ as₃) ≡ ans → Quiet o h L stretch → Unchanged o L P Q
 
 abbrev pub Replay : Order → Rule → Type 0
 Replay o h = (bytes : List ℕ) (qs : List Request) (ans : List Answer) (b : Block) → History o h bytes qs ans b → Replayed o h bytes qs ans b

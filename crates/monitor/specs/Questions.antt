@@ -5,14 +5,13 @@ use Rattle.model.specs.declared.answer.Refusal.{Refusal}
 use Rattle.model.specs.declared.answer.Refusal.TheVariants as refusal
 use Rattle.model.specs.declared.fact.Fact.TheVariants.{Lives, Held, Right, Access, Flow, Control}
 use Rattle.model.specs.declared.fact.Mode.{Mode}
-use Rattle.model.specs.declared.request.Span.{Span}
 use Rattle.model.specs.declared.request.Span.TheVariants as span
 use Rattle.model.specs.Records.{State, Stands}
-use Rattle.model.specs.Form.{mode_of, idle, admits, suits}
+use Rattle.model.specs.Form.{mode_of, role, item, session, idle, admits, suits}
 use Rattle.model.specs.Judged.{Tells}
 use Rattle.model.specs.Needs.{Need, Met, Fails, Reaches}
 use Rattle.block.specs.declared.block.Block.{Block}
-use Rattle.block.specs.Reading.{state}
+use Rattle.block.specs.Lent.{started, block_state}
 use Rattle.monitor.specs.declared.topic.Question.{Question}
 use Rattle.monitor.specs.declared.topic.Spans.{Spans}
 use Rattle.monitor.specs.declared.topic.Topic.{Topic}
@@ -26,15 +25,6 @@ topics = topic.Right ∷ topic.Held ∷ topic.Access ∷ topic.Flow ∷ topic.Co
 
 unfoldable pub topic_numbered : ℕ → Option Topic
 topic_numbered q = cond (nat_le 1 q && nat_le q 6) (Some (slice_index_or topics (q - 1) topic.Right)) None
-
-abbrev role : Span
-role = span.Within 0 31
-
-abbrev item : Span
-item = span.Within 1 255
-
-abbrev session : Span
-session = span.Within 1 63
 
 -- the numbers a, b and m
 abbrev pub row : Topic → Spans
@@ -51,9 +41,9 @@ ranged w q = admits w.a q.a && (admits w.b q.b && (admits w.m q.m && suits w.m q
 
 -- what a question needs, in the order in which it is tried
 abbrev pub needs : Block → Question → Option Topic → List Need
-needs b q None = (refusal.Blank, T b.started) ∷ (refusal.Form, ⊥) ∷ []
+needs b q None = (refusal.Blank, T (started b)) ∷ (refusal.Form, ⊥) ∷ []
 needs b q (Some t) =
-    (refusal.Blank, T b.started)
+    (refusal.Blank, T (started b))
     ∷ (refusal.Form, T (idle (row t).m q.m))
     ∷ (refusal.Range, T (ranged (row t) q))
     ∷ []
@@ -73,4 +63,4 @@ Holds o S topic.Reach a b m = Stands S (Lives a) × Stands S (Lives b) × Reache
 abbrev pub Asked : Order → Block → Question → Result Bool Refusal → Type 0
 Asked o b q (Err r) = Fails (needs b q (topic_numbered q.q)) r
 Asked o b q (Ok holds) =
-    (t : Topic) × (topic_numbered q.q ≡ Some t) × Met (needs b q (Some t)) × Tells holds (Holds o (state b) t q.a q.b (mode_of q.m))
+    (t : Topic) × (topic_numbered q.q ≡ Some t) × Met (needs b q (Some t)) × Tells holds (Holds o (block_state b) t q.a q.b (mode_of q.m))

@@ -2,32 +2,18 @@
 ghost use Rattle.std.specs.Prelude.{◌≡◌, ◌&&◌};
 ghost use Rattle.block.specs.Reading.{state};
 ghost use Rattle.model.specs.Judged.{Tells};
-ghost use Rattle.monitor.specs.Questions.{topic_numbered, row as row_of, ranged as is_ranged, Holds, Asked};
+ghost use Rattle.monitor.specs.Questions.{row as row_of, ranged as is_ranged, Holds, Asked};
 
 use crate::topic::{Question, Spans, Topic};
-use block::Block;
+use block::{Block, Records};
 use flows::reaches;
+use model::span::{ITEM, ROLE, SESSION};
 use model::{Fact, Mode, Refusal, Span};
 use policy::LevelOrder;
 use requests::{admits, idle, suits};
 
-const ROLE: Span = Span::Within(0, 31);
-
-const ITEM: Span = Span::Within(1, 255);
-
-const SESSION: Span = Span::Within(1, 63);
-
-/// The six questions, from 1 on.
-const TOPICS: [Topic; 6] = [
-    Topic::Right,
-    Topic::Held,
-    Topic::Access,
-    Topic::Flow,
-    Topic::Control,
-    Topic::Reach,
-];
-
-/// A row for each, in their order.
+/// A row for each of the six questions, in their order.
+// An array, and no `match`: it reads like the table of the rules.
 #[rattlefmt::skip]
 const ROWS: [Spans; 6] = [
     Spans { a: ROLE, b: ITEM, m: Span::Right },
@@ -37,16 +23,6 @@ const ROWS: [Spans; 6] = [
     Spans { a: SESSION, b: SESSION, m: Span::Unused },
     Spans { a: SESSION, b: ITEM, m: Span::Unused },
 ];
-
-/// What the question of the number `q`, from 1 to 6, asks.
-fn topic_of(q: u32) -> Option<Topic>
-    ensures { result ≡ topic_numbered q }
-{
-    if q < 1 || q > 6 {
-        return None;
-    }
-    Some(TOPICS[q as usize - 1])
-}
 
 fn row(topic: Topic) -> Spans
     ensures { result ≡ row_of topic }
@@ -62,23 +38,30 @@ fn ranged(row: &Spans, q: &Question) -> bool
 }
 
 /// Both items are alive.
-fn alive(block: &Block, a: u32, b: u32) -> bool
-    ensures { result ≡ ((state block.now).stands (Fact.Lives a) && (state block.now).stands (Fact.Lives b)) }
+fn alive(records: &Records, a: u32, b: u32) -> bool
+    ensures { result ≡ ((state records.now).stands (Fact.Lives a) && (state records.now).stands (Fact.Lives b)) }
 {
-    block.stands(Fact::Lives(a)) && block.stands(Fact::Lives(b))
+    records.stands(Fact::Lives(a)) && records.stands(Fact::Lives(b))
 }
 
 /// The relation stands between live items.
-fn holds<O: LevelOrder>(block: &Block, order: &O, topic: Topic, a: u32, b: u32, mode: Mode) -> bool
-    ensures { Tells result (Holds (O.meaning order.now) (state block.now) topic a b mode) }
+fn holds<O: LevelOrder>(
+    records: &Records,
+    order: &O,
+    topic: Topic,
+    a: u32,
+    b: u32,
+    mode: Mode,
+) -> bool
+    ensures { Tells result (Holds (O.meaning order.now) (state records.now) topic a b mode) }
 {
     match topic {
-        Topic::Right => block.stands(Fact::Lives(b)) && block.stands(Fact::Right(a, b, mode)),
-        Topic::Held => block.stands(Fact::Lives(a)) && block.stands(Fact::Held(a, b)),
-        Topic::Access => alive(block, a, b) && block.stands(Fact::Access(a, b, mode)),
-        Topic::Flow => alive(block, a, b) && block.stands(Fact::Flow(a, b)),
-        Topic::Control => alive(block, a, b) && block.stands(Fact::Control(a, b)),
-        Topic::Reach => alive(block, a, b) && reaches(block, order, a, b),
+        Topic::Right => records.stands(Fact::Lives(b)) && records.stands(Fact::Right(a, b, mode)),
+        Topic::Held => records.stands(Fact::Lives(a)) && records.stands(Fact::Held(a, b)),
+        Topic::Access => alive(records, a, b) && records.stands(Fact::Access(a, b, mode)),
+        Topic::Flow => alive(records, a, b) && records.stands(Fact::Flow(a, b)),
+        Topic::Control => alive(records, a, b) && records.stands(Fact::Control(a, b)),
+        Topic::Reach => alive(records, a, b) && reaches(records, order, a, b),
     }
 }
 
@@ -86,12 +69,10 @@ fn holds<O: LevelOrder>(block: &Block, order: &O, topic: Topic, a: u32, b: u32, 
 pub(crate) fn ask<O: LevelOrder>(block: &Block, order: &O, q: &Question) -> Result<bool, Refusal>
     ensures { Asked (O.meaning order.now) block.now q.now result }
 {
-    if !block.started {
+    let Some(records) = &block.records else {
         return Err(Refusal::Blank);
-    }
-    let Some(topic) = topic_of(q.q) else {
-        return Err(Refusal::Form);
     };
+    let topic = Topic::try_from(q.q)?;
     let row = row(topic);
     if !idle(row.m, q.m) {
         return Err(Refusal::Form);
@@ -99,5 +80,5 @@ pub(crate) fn ask<O: LevelOrder>(block: &Block, order: &O, q: &Question) -> Resu
     if !ranged(&row, q) {
         return Err(Refusal::Range);
     }
-    Ok(holds(block, order, topic, q.a, q.b, Mode::of(q.m)))
+    Ok(holds(records, order, topic, q.a, q.b, Mode::from(q.m)))
 }

@@ -1,5 +1,6 @@
 //! The calls that a host makes. Each states its one outcome, and the laws of every history that it lengthens.
-ghost use Rattle.std.specs.Prelude.{◌≡◌, [], ◌∷◌};
+//! Block, order and rule are three parameters: a host owns them apart, and a question takes no rule.
+ghost use Rattle.std.specs.Prelude.{[], ◌∷◌, OnOk};
 ghost use Rattle.policy.specs.Order.{Order, Lawful};
 ghost use Rattle.policy.specs.Rule.{Rule};
 ghost use Rattle.reports.specs.Report.{Reports};
@@ -14,7 +15,7 @@ use crate::listing::answer_list;
 use crate::record::Record;
 use crate::topic::Question;
 use block::Block;
-use model::{Answer, Refusal, Request};
+use model::{Refusal, Request, StartRefusal};
 use policy::{HouseRule, LevelOrder};
 use reports::report as write_report;
 use requests::answer;
@@ -26,9 +27,9 @@ pub fn start<O: LevelOrder, R: HouseRule>(
     order: &O,
     rule: &R,
     text: &[u8],
-) -> Answer
+) -> Result<(), StartRefusal>
     ensures outcome { Start (O.meaning order.now) (R.answers rule.now) block.old text.now result block.new }
-    ensures begins { result ≡ Answer.Accepted → Laws (O.meaning order.now) (R.answers rule.now) text.now [] [] block.new }
+    ensures begins { OnOk result (Laws (O.meaning order.now) (R.answers rule.now) text.now [] [] block.new) }
     ensures laws { LawsStay (O.meaning order.now) (R.answers rule.now) block.old block.new }
 {
     start_blank(block, order, rule, text)
@@ -39,13 +40,13 @@ fn answer_one<O: LevelOrder, R: HouseRule>(
     order: &O,
     rule: &R,
     q: &Request,
-) -> Answer
+) -> Result<(), Refusal>
     ensures { Requested (O.meaning order.now) (R.answers rule.now) block.old q.now result block.new }
 {
-    if !block.started {
-        return Answer::Refused(Refusal::Blank);
-    }
-    answer(block, order, rule, q)
+    let Some(records) = &mut block.records else {
+        return Err(Refusal::Blank);
+    };
+    answer(records, order, rule, q)
 }
 
 /// Answers a request. A blank block, and a request that is refused, leave the block as it was.
@@ -54,7 +55,7 @@ pub fn request<O: LevelOrder, R: HouseRule>(
     order: &O,
     rule: &R,
     q: &Request,
-) -> Answer
+) -> Result<(), Refusal>
     ensures outcome { Requested (O.meaning order.now) (R.answers rule.now) block.old q.now result block.new }
     ensures laws { LawsAfter (O.meaning order.now) (R.answers rule.now) block.old (q.now ∷ []) (result ∷ []) block.new }
 {
@@ -68,7 +69,7 @@ pub fn list<O: LevelOrder, R: HouseRule>(
     order: &O,
     rule: &R,
     records: &mut [Record],
-) -> Answer
+) -> Result<(), Refusal>
     ensures outcome { Listed (O.meaning order.now) (R.answers rule.now) block.old records.old result records.new block.new }
     ensures laws { LawsAfter (O.meaning order.now) (R.answers rule.now) block.old (asked result records.old) (told result records.new) block.new }
 {

@@ -4,8 +4,8 @@ ghost use Rattle.requests.specs.Answered.{Answered};
 ghost use Rattle.monitor.specs.Lists.{InTurn, Listed};
 
 use crate::record::Record;
-use block::Block;
-use model::{Answer, Refusal};
+use block::{Block, Records};
+use model::Refusal;
 use policy::{HouseRule, LevelOrder};
 use requests::answer;
 
@@ -14,28 +14,28 @@ const LONGEST: usize = 1024;
 
 /// Answers the record's request, in its place.
 fn answer_in_place<O: LevelOrder, R: HouseRule>(
-    block: &mut Block,
+    held: &mut Records,
     order: &O,
     rule: &R,
     entry: &mut Record,
 )
     ensures stays { entry.new.request ≡ entry.old.request }
-    ensures answered { Answered (O.meaning order.now) (R.answers rule.now) block.old entry.old.request entry.new.answer block.new }
+    ensures answered { Answered (O.meaning order.now) (R.answers rule.now) held.old entry.old.request entry.new.answer held.new }
 {
-    entry.answer = answer(block, order, rule, &entry.request);
+    entry.answer = answer(held, order, rule, &entry.request);
 }
 
 /// Answers the records in turn, each in its place.
 fn answer_each<O: LevelOrder, R: HouseRule>(
-    block: &mut Block,
+    held: &mut Records,
     order: &O,
     rule: &R,
     records: &mut [Record],
 )
-    ensures { InTurn (O.meaning order.now) (R.answers rule.now) block.old records.old records.new block.new }
+    ensures { InTurn (O.meaning order.now) (R.answers rule.now) held.old records.old records.new held.new }
 {
     for entry in records.iter_mut() {
-        answer_in_place(block, order, rule, entry);
+        answer_in_place(held, order, rule, entry);
     }
 }
 
@@ -46,15 +46,15 @@ pub(crate) fn answer_list<O: LevelOrder, R: HouseRule>(
     order: &O,
     rule: &R,
     records: &mut [Record],
-) -> Answer
+) -> Result<(), Refusal>
     ensures { Listed (O.meaning order.now) (R.answers rule.now) block.old records.old result records.new block.new }
 {
-    if !block.started {
-        return Answer::Refused(Refusal::Blank);
-    }
+    let Some(held) = &mut block.records else {
+        return Err(Refusal::Blank);
+    };
     if records.len() > LONGEST {
-        return Answer::Refused(Refusal::ListTooLong);
+        return Err(Refusal::ListTooLong);
     }
-    answer_each(block, order, rule, records);
-    Answer::Accepted
+    answer_each(held, order, rule, records);
+    Ok(())
 }

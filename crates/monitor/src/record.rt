@@ -1,9 +1,9 @@
 //! The records of a list.
-use model::{Answer, Request};
+use model::{Refusal, Request};
 
 /// A request, with a place for its answer.
-#[derive(Clone, Copy)]
+#[derive(Clone, Copy, Debug, PartialEq, Eq)]
 pub struct Record {
     pub request: Request,
-    pub answer: Answer,
+    pub answer: Result<(), Refusal>,
 }

@@ -1,5 +1,6 @@
 -- What a house rule means: its answer to an account, a life record and a role.
-use Rattle.std.specs.Prelude.{ℕ, zero, suc, ◌+◌, Bool, true, false, cond, not, ◌&&◌, ◌||◌, List, [], ◌∷◌, length, ◌==◌, nat_le, nat_lt}
+use Rattle.std.specs.Prelude.{ℕ, zero, suc, ◌+◌, Bool, if◌then◌else◌, not, ◌&&◌, ◌||◌, List, length, ◌==◌, nat_le, nat_lt}
+use Rattle.std.specs.List.{list_all, list_any}
 use Rattle.sets.specs.Member.{bit}
 use Rattle.policy.specs.declared.pair.Pair.{Pair}
 
@@ -11,17 +12,16 @@ Rule = ℕ → ℕ → ℕ → Bool
 abbrev pub parts : ℕ → ℕ → Pair → Bool
 parts life role p = (bit life p.first && role == p.second) || (bit life p.second && role == p.first)
 
+-- some pair is parted
 abbrev pub parted : ℕ → ℕ → List Pair → Bool
-parted life role [] = false
-parted life role (p ∷ ps) = parts life role p || parted life role ps
+parted life role = list_any (parts life role)
 
 -- a pair of two roles; roles run from 0 to 31
 abbrev pub proper : Pair → Bool
 proper p = nat_lt p.first 32 && (nat_lt p.second 32 && not (p.first == p.second))
 
 abbrev pub each_proper : List Pair → Bool
-each_proper [] = true
-each_proper (p ∷ ps) = proper p && each_proper ps
+each_proper = list_all proper
 
 -- what a separation may be made of: at most eight pairs, each of two roles
 abbrev pub admissible : List Pair → Bool
@@ -30,7 +30,7 @@ admissible pairs = nat_le (length pairs) 8 && each_proper pairs
 -- how many of the numbers below n pass a test
 unfoldable pub count : (ℕ → Bool) → ℕ → ℕ
 count f zero = 0
-count f (suc n) = cond (f n) 1 0 + count f n
+count f (suc n) = (if f n then 1 else 0) + count f n
 
 -- how many roles of the group are in the life record with the asked role added
 abbrev pub members : ℕ → ℕ → ℕ → ℕ

@@ -1,4 +1,4 @@
-ghost use Rattle.std.specs.Prelude.{◌≡◌, T};
+ghost use Rattle.std.specs.Prelude.{◌≡◌, IsTrue};
 ghost use Rattle.policy.specs.Order.{Order, Lawful, ladder, badges};
 ghost use Rattle.std.proofs.Common.{rules, arith};
 ghost use Rattle.std.specs.Int.Bits.{and_self};
@@ -25,7 +25,7 @@ pub trait LevelOrder {
 }
 
 /// Sixteen levels, 0 to 15, compared as numbers.
-#[derive(Clone, Copy)]
+#[derive(Clone, Copy, PartialEq, Eq)]
 pub struct Ladder;
 
 impl LevelOrder for Ladder {
@@ -47,7 +47,7 @@ impl LevelOrder for Ladder {
 }
 
 /// Sets of eight badges, 0 to 255, compared by inclusion.
-#[derive(Clone, Copy)]
+#[derive(Clone, Copy, PartialEq, Eq)]
 pub struct Badges;
 
 impl LevelOrder for Badges {
@@ -77,8 +77,6 @@ impl LevelOrder for Badges {
 }
 
 /// Badges are no numbers: 1 is at or below 5, and 3 is not.
-pub fn worked_orders() -> u8
-    ensures { T (badges.below 1 5) × (T (badges.below 3 5) → ⊥) }
-{
-    0
-}
+pub fn worked_orders()
+    ensures { IsTrue (badges.below 1 5) × ¬ IsTrue (badges.below 3 5) }
+{}

@@ -4,7 +4,7 @@ ghost use Rattle.policy.specs.Rule.{proper, parts};
 use crate::role::has_role;
 
 /// Two roles that no session may ever take both.
-#[derive(Clone, Copy)]
+#[derive(Clone, Copy, PartialEq, Eq)]
 pub struct Pair {
     pub first: u32,
     pub second: u32,

@@ -1,6 +1,6 @@
-ghost use Rattle.std.specs.Prelude.{◌≡◌, ℕ, ◌<◌, ◌≤◌, true, false, ◌||◌, Some, None, ◌==◌};
+ghost use Rattle.std.specs.Prelude.{◌≡◌, ℕ, ◌<◌, ◌≤◌, true, false, ◌||◌, MatchOption, ◌==◌};
 ghost use Rattle.sets.specs.Member.{bit};
-ghost use Rattle.policy.specs.Rule.{Rule, each_proper, admissible, separation, members, quota};
+ghost use Rattle.policy.specs.Rule.{Rule, admissible, separation, members, quota};
 
 use crate::pair::Pair;
 use crate::role::with_role;
@@ -18,14 +18,15 @@ pub trait HouseRule {
 #[derive(Clone, Copy)]
 pub struct Separation<'a> {
     pairs: &'a [Pair],
+    ghost of_roles: { admissible pairs.now ≡ true },
 }
 
 impl<'a> Separation<'a> {
     /// The rule of these pairs, or none if there is a ninth pair, or one that is not of two roles.
     pub fn new(pairs: &'a [Pair]) -> Option<Separation<'a>>
-        ensures { elim result [ Some s ↦ (s.pairs.now ≡ pairs.now) × (admissible pairs.now ≡ true) | None ↦ admissible pairs.now ≡ false ] }
+        ensures { MatchOption result (admissible pairs.now ≡ false) (λ s. (s.pairs.now ≡ pairs.now) × (admissible pairs.now ≡ true)) }
     {
-        if pairs.len() <= 8 && all_proper(pairs) {
+        if pairs.len() <= 8 && pairs.iter().all(|pair| pair.is_proper()) {
             Some(Separation { pairs })
         } else {
             None
@@ -33,27 +34,11 @@ impl<'a> Separation<'a> {
     }
 }
 
-fn all_proper(pairs: &[Pair]) -> bool
-    ensures { result ≡ each_proper pairs.now }
-{
-    for pair in pairs {
-        if !pair.is_proper() {
-            return false;
-        }
-    }
-    true
-}
-
 impl HouseRule for Separation<'_> {
     ghost answers = { λ s. separation s.pairs.now };
 
     fn allows(&self, _account: u32, life: u32, role: u32) -> bool {
-        for pair in self.pairs {
-            if pair.parts(life, role) {
-                return false;
-            }
-        }
-        true
+        !self.pairs.iter().any(|pair| pair.parts(life, role))
     }
 }
 
@@ -62,12 +47,13 @@ impl HouseRule for Separation<'_> {
 pub struct Quota {
     group: u32,
     most: u32,
+    ghost at_most_all: { most ≤ 32 },
 }
 
 impl Quota {
     /// The rule of this group, or none if `most` is over 32.
     pub fn new(group: u32, most: u32) -> Option<Quota>
-        ensures { elim result [ Some q ↦ (q.group ≡ group) × (q.most ≡ most) × (most ≤ 32) | None ↦ 32 < most ] }
+        ensures { MatchOption result (32 < most) (λ q. (q.group ≡ group) × (q.most ≡ most) × (most ≤ 32)) }
     {
         if most <= 32 {
             Some(Quota { group, most })

@@ -6,7 +6,7 @@ use Rattle.model.specs.declared.answer.Refusal.{Refusal}
 use Rattle.model.specs.declared.answer.Refusal.TheVariants.{Blank, BufferTooShort}
 use Rattle.model.specs.Records.{State, Session, Stands}
 use Rattle.block.specs.declared.block.Block.{Block}
-use Rattle.block.specs.Reading.{state}
+use Rattle.block.specs.Lent.{started, block_state}
 use Rattle.text.specs.Written.{control_line, written}
 
 -- ## The pairs
@@ -44,9 +44,9 @@ report S = lines (pairs S)
 
 -- the answer to a report into the buffer, and what it leaves there
 pub record Reports (b : Block) (buffer : List ℕ) (r : Result ℕ Refusal) (after : List ℕ) : Type 0 where
-  pub blank : b.started ≡ false → (r ≡ Err Blank) × (after ≡ buffer)
-  pub short : b.started ≡ true → length buffer < length (report (state b)) → (r ≡ Err BufferTooShort) × (after ≡ buffer)
-  pub whole : b.started ≡ true → length (report (state b)) ≤ length buffer → (r ≡ Ok (length (report (state b)))) × (after ≡ written buffer 0 (report (state b)))
+  pub blank : started b ≡ false → (r ≡ Err Blank) × (after ≡ buffer)
+  pub short : started b ≡ true → length buffer < length (report (block_state b)) → (r ≡ Err BufferTooShort) × (after ≡ buffer)
+  pub whole : started b ≡ true → length (report (block_state b)) ≤ length buffer → (r ≡ Ok (length (report (block_state b)))) × (after ≡ written buffer 0 (report (block_state b)))
 
 -- ## What makes it the report
 

@@ -4,15 +4,15 @@ ghost use Rattle.block.specs.Reading.{state};
 ghost use Rattle.reports.specs.Report.{pair, row, report, lines};
 
 use crate::selecting::has_pair;
-use block::Block;
+use block::Records;
 use text::writer::control_line_len;
 
 /// How long the line of the pair is, 0 if it has none.
-fn pair_len(block: &Block, s: u32, t: u32) -> usize
-    ensures value { result ≡ length (lines (pair (state block.now) s t)) }
+fn pair_len(records: &Records, s: u32, t: u32) -> usize
+    ensures value { result ≡ length (lines (pair (state records.now) s t)) }
     ensures few { result ≤ 30 }
 {
-    if has_pair(block, s, t) {
+    if has_pair(records, s, t) {
         control_line_len(s, t)
     } else {
         0
@@ -20,24 +20,24 @@ fn pair_len(block: &Block, s: u32, t: u32) -> usize
 }
 
 /// How long the lines of session s are.
-fn row_len(block: &Block, s: u32) -> usize
-    ensures value { result ≡ length (lines (row (state block.now) s)) }
+fn row_len(records: &Records, s: u32) -> usize
+    ensures value { result ≡ length (lines (row (state records.now) s)) }
     ensures few { result ≤ 2000 }
 {
     let mut len = 0;
     for t in 1..=63 {
-        len += pair_len(block, s, t);
+        len += pair_len(records, s, t);
     }
     len
 }
 
 /// How long the report is.
-pub(crate) fn report_len(block: &Block) -> usize
-    ensures { result ≡ length (report (state block.now)) }
+pub(crate) fn report_len(records: &Records) -> usize
+    ensures { result ≡ length (report (state records.now)) }
 {
     let mut len = 0;
     for s in 1..=63 {
-        len += row_len(block, s);
+        len += row_len(records, s);
     }
     len
 }

@@ -12,18 +12,16 @@ use model::Refusal;
 pub fn report(block: &Block, buffer: &mut [u8]) -> Result<usize, Refusal>
     ensures { Reports block.now buffer.old result buffer.new }
 {
-    if !block.started {
+    let Some(records) = &block.records else {
         return Err(Refusal::Blank);
-    }
-    if buffer.len() < report_len(block) {
+    };
+    if buffer.len() < report_len(records) {
         return Err(Refusal::BufferTooShort);
     }
-    Ok(write_report(block, buffer))
+    Ok(write_report(records, buffer))
 }
 
 /// In every state the report lists exactly the pairs of which the first session controls the second, in ascending order.
-pub fn report_lists_all() -> u8
+pub fn report_lists_all()
     ensures { (S : State) → ListsAll S (pairs S) }
-{
-    0
-}
+{}

@@ -1,17 +1,21 @@
 -- Needs behind needs.
-use Rattle.std.proofs.Common.{List, [], ◌∷◌, ◌++◌, inl, inr}
+use Rattle.std.proofs.Common.{◌≡◌, List, [], ◌∷◌, ◌++◌, Some, Option, Err, sym, subst, inl, inr}
+use Rattle.policy.specs.Order.{Order}
+use Rattle.policy.specs.Rule.{Rule}
 use Rattle.model.specs.declared.answer.Refusal.{Refusal}
-use Rattle.model.specs.Needs.{Need, Met, Fails}
+use Rattle.model.specs.declared.request.Kind.{Kind}
+use Rattle.model.specs.declared.request.Request.{Request}
+use Rattle.model.specs.Form.{kind_of}
+use Rattle.model.specs.Records.{State}
+use Rattle.model.specs.Needs.{Need, Fails, needs, opening, further}
+use Rattle.requests.specs.Checked.{Checked}
 
-pub met_join : (ns ms : List Need) → Met ns → Met ms → Met (ns ++ ms)
-met_join [] ms m n = n
-met_join (n ∷ ns) ms m k = (m.0, met_join ns ms m.1 k)
-
-pub fails_first : (ns ms : List Need) (a : Refusal) → Fails ns a → Fails (ns ++ ms) a
+fails_first : (ns ms : List Need) (a : Refusal) → Fails ns a → Fails (ns ++ ms) a
 fails_first [] ms a f = absurd f
 fails_first (n ∷ ns) ms a (inl f) = inl f
 fails_first (n ∷ ns) ms a (inr f) = inr (f.0, fails_first ns ms a f.1)
 
-pub fails_later : (ns ms : List Need) (a : Refusal) → Met ns → Fails ms a → Fails (ns ++ ms) a
-fails_later [] ms a m f = f
-fails_later (n ∷ ns) ms a m f = inr (m.0, fails_later ns ms a m.1 f)
+-- a need of the opening that fails refuses the request
+pub fails_opening : (o : Order) (h : Rule) (S : State) (q : Request) (k : Kind) (a : Refusal) → kind_of q.k ≡ Some k → Fails (opening o h S q k) a → Checked o h S q (Err a)
+fails_opening o h S q k a e f =
+    subst (λ (found : Option Kind). Fails (needs o h S q found) a) (sym e) (fails_first (opening o h S q k) (further o h S q k) a f)

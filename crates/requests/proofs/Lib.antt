@@ -1,3 +1,3 @@
 pub mod Joining
 pub mod Effects
-pub mod Ranges
+pub mod Below

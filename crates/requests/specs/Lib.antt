@@ -1,4 +1,3 @@
 pub mod Answered
 pub mod Checked
-pub mod Done
 pub mod Words

@@ -6,34 +6,29 @@ ghost use Rattle.requests.specs.Answered.{Answered};
 
 use crate::check::check;
 use crate::effect::carry_out;
-use block::Block;
+use block::Records;
 use flows::settle;
-use model::{Answer, Request};
+use model::{Refusal, Request};
 use policy::{HouseRule, LevelOrder};
 
 /// Lets flows and control follow from what is written.
-fn follow(block: &mut Block)
-    ensures state { Settles (state block.old) (state block.new) }
-    ensures started { block.new.started ≡ block.old.started }
+fn follow(records: &mut Records)
+    ensures { Settles (state records.old) (state records.new) }
 {
-    settle(&mut block.relations, &block.tables);
+    settle(&mut records.relations, &records.tables);
 }
 
 /// Answers a request on a started block: refused by the first need that fails, with nothing written, or else accepted.
 pub fn answer<O: LevelOrder, R: HouseRule>(
-    block: &mut Block,
+    records: &mut Records,
     order: &O,
     rule: &R,
     q: &Request,
-) -> Answer
-    ensures { Answered (O.meaning order.now) (R.answers rule.now) block.old q.now result block.new }
+) -> Result<(), Refusal>
+    ensures { Answered (O.meaning order.now) (R.answers rule.now) records.old q.now result records.new }
 {
-    match check(block, order, rule, q) {
-        Err(refusal) => Answer::Refused(refusal),
-        Ok(kind) => {
-            carry_out(block, q, kind);
-            follow(block);
-            Answer::Accepted
-        }
-    }
+    let kind = check(records, order, rule, q)?;
+    carry_out(records, q, kind);
+    follow(records);
+    Ok(())
 }

@@ -8,7 +8,7 @@ use policy::LevelOrder;
 fn between(low: u32, high: u32, n: u32) -> bool
     ensures { result ≡ is_between low high n }
 {
-    low <= n && n <= high
+    (low..=high).contains(&n)
 }
 
 /// An unused number is 0.
@@ -28,8 +28,8 @@ pub fn admits(span: Span, n: u32) -> bool
     match span {
         Span::Unused => true,
         Span::Within(low, high) => between(low, high, n),
-        Span::Right => n == 1 || n == 2 || n == 4 || n == 8,
-        Span::Access => n == 1 || n == 2 || n == 8,
+        Span::Right => matches!(n, 1 | 2 | 4 | 8),
+        Span::Access => matches!(n, 1 | 2 | 8),
     }
 }
 

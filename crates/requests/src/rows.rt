@@ -2,23 +2,11 @@
 ghost use Rattle.std.specs.Prelude.{◌≡◌};
 ghost use Rattle.model.specs.Form.{row as row_of};
 
+use model::span::{ENTITY, ITEM, LEVEL, MARK, NONE, ROLE, SESSION};
 use model::{Kind, Row, Sort, Span};
 
-const ROLE: Span = Span::Within(0, 31);
-
-const ITEM: Span = Span::Within(1, 255);
-
-const ENTITY: Span = Span::Within(64, 255);
-
-const SESSION: Span = Span::Within(1, 63);
-
-const LEVEL: Span = Span::Within(0, 65535);
-
-const MARK: Span = Span::Within(0, 3);
-
-const NONE: Span = Span::Unused;
-
 /// A row for each kind, in the order of the kinds.
+// An array, and no `match`: it reads like the table of the rules.
 #[rattlefmt::skip]
 const ROWS: [Row; 13] = [
     // take

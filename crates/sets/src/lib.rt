@@ -1,9 +1,10 @@
-//! Sets of small numbers: below 64 in one word, below 256 in four.
-//! Each contract says which numbers the set then has, so no caller sees a word.
+//! Sets of small numbers, a bit for each, and relations of small numbers, a set for each row.
+//! Each contract says which numbers the set or the row then has, so no caller sees a word.
 #![tactic(auto)]
 
-mod set256;
-mod set64;
+mod closing;
+mod relation;
+mod set;
 
-pub use set64::Set64;
-pub use set256::Set256;
+pub use relation::Relation;
+pub use set::{Set, Set64, Set256};

@@ -1,5 +1,5 @@
 -- What an accepted text begins keeps to the level conditions, and stands with all that follows.
-use Rattle.std.proofs.Common.{◌≡◌, ℕ, Bool, true, false, cond, not, ◌||◌, T, List, [], ◌∷◌, sym, refl, ◌∙◌, subst, ⊎_elim, T_not}
+use Rattle.std.proofs.Common.{◌≡◌, ℕ, Bool, true, false, cond, not, ◌||◌, T, List, [], ◌∷◌, Some, None, Option, is_some, IsSome, unwrap_or, sym, refl, ◌∙◌, subst, ⊎_elim}
 use Rattle.std.proofs.lemmas.Bool.{false≢true}
 use Rattle.policy.specs.Order.{Order}
 use Rattle.policy.specs.Rule.{Rule}
@@ -9,9 +9,9 @@ use Rattle.text.specs.Lines.{follows, in_range, entity_in_range, Sound as InOrde
 use Rattle.model.specs.declared.fact.Fact.{Fact}
 use Rattle.model.specs.declared.fact.Fact.TheVariants.{Lives, Held, Right, Access, Holding}
 use Rattle.model.specs.declared.record.Item.{Item}
-use Rattle.model.specs.Records.{Cards, State, Stands, same, root}
+use Rattle.model.specs.Records.{Cards, State, Stands, no_item, item_of, mark_of, same, root}
 use Rattle.model.specs.Form.{mode_of}
-use Rattle.model.specs.Needs.{Met}
+use Rattle.model.specs.Needs.{is_container, Met}
 use Rattle.model.specs.Effects.{put, live_item}
 use Rattle.model.specs.Laws.{Settled, Fits, Sound}
 use Rattle.model.proofs.Tests.{parts, either}
@@ -25,19 +25,25 @@ use Rattle.start.specs.Starts.{Begins}
 -- ## Items stay
 
 -- items used before are as they were
-abbrev Kept : (ℕ → Item) → (ℕ → Item) → Type 0
-Kept A B = (i : ℕ) → T (A i).used → B i ≡ A i
+abbrev Kept : (ℕ → Option Item) → (ℕ → Option Item) → Type 0
+Kept A B = (i : ℕ) → IsSome (A i) → B i ≡ A i
 
-kept_on : {A B C : ℕ → Item} → Kept A B → Kept B C → Kept A C
-kept_on {A} {B} {C} p q i u = q i (subst (λ (x : Item). T x.used) (sym (p i u)) u) ∙ p i u
+kept_on : {A B C : ℕ → Option Item} → Kept A B → Kept B C → Kept A C
+kept_on {A} {B} {C} p q i u = q i (rw (p i u) u) ∙ p i u
 
 -- so they are beside one under a number that was free
-kept_put : (n : ℕ) (new : Item) (A : ℕ → Item) → T (not (A n).used) → Kept A (put n new A)
-kept_put n new A free i u = put_old n new A i (λ e. T_not (A n).used free (subst (λ (k : ℕ). T (A k).used) e u))
+kept_put : (n : ℕ) (new : Item) (A : ℕ → Option Item) → T (not (is_some (A n))) → Kept A (put n (Some new) A)
+kept_put n new A free i u =
+    put_old n (Some new) A i (λ e. absurd (rw (subst (λ (k : ℕ). IsSome (A k)) e u) at free))
 
 -- and that one stays too
-new_kept : (n : ℕ) (new : Item) (A B : ℕ → Item) → T new.used → Kept (put n new A) B → B n ≡ new
-new_kept n new A B u k = k n (subst (λ (x : Item). T x.used) (sym (put_new n new A)) u) ∙ put_new n new A
+new_kept : (n : ℕ) (new : Item) (A B : ℕ → Option Item) → Kept (put n (Some new) A) B → B n ≡ Some new
+new_kept n new A B k = k n (rw (put_new n (Some new) A) refl) ∙ put_new n (Some new) A
+
+-- a container is used
+used : (i : Option Item) → T (is_container (unwrap_or i no_item)) → IsSome i
+used None c = absurd c
+used (Some item) c = refl
 
 -- a root comes after no line
 root_first : (level mark : ℕ) (ls : List Line) → follows ls (line.Root level mark) ≡ true → ls ≡ []
@@ -72,7 +78,7 @@ module _ (o : Order) (h : Rule) (all : State) where
   -- and leaves the items that were used
   leaves : (l : Line) (ls : List Line) → follows ls l ≡ true → Met (asks o h all (listed ls) l) → Kept (listed ls).cards.items (plus l (listed ls)).cards.items
   leaves (line.Root level mark) ls f m i u =
-      absurd (subst (λ (ks : List Line). T ((listed ks).cards.items i).used) (root_first level mark ls f) u)
+      absurd (false≢true (subst (λ (ks : List Line). IsSome ((listed ks).cards.items i)) (root_first level mark ls f) u))
   leaves (line.Gate object) ls f m i u = refl
   leaves (line.Account number level guarded roles key) ls f m i u = refl
   leaves (line.Role number level kind manages key) ls f m i u = refl
@@ -87,27 +93,27 @@ module _ (o : Order) (h : Rule) (all : State) where
   Fit = Fits o all.cards
 
   -- an item in its holder
-  fits_holding : (new : Item) (number holder : ℕ) → T new.used → all.cards.items number ≡ new → T (entity_in_range number) → T (container all holder) → T (o.below new.level (all.cards.items holder).level) → Fit (Holding holder number)
-  fits_holding new number holder u e r c b =
-      ((parts (all.cards.items holder).used _ c).0, subst (λ (x : Item). T x.used) (sym e) u, bounds 64 255 number r, subst (λ (x : Item). T (o.below x.level (all.cards.items holder).level)) (sym e) b)
+  fits_holding : (new : Item) (number holder : ℕ) → all.cards.items number ≡ Some new → T (entity_in_range number) → T (container all holder) → T (o.below new.level (item_of all.cards holder).level) → Fit (Holding holder number)
+  fits_holding new number holder e r c b =
+      (used (all.cards.items holder) c, rw e refl, bounds 64 255 number r, rw e b)
 
   -- the facts that a line adds fit, where its items stay
   fits_plus : (l : Line) (S : State) → T (in_range l) → Met (asks o h all S l) → Kept (plus l S).cards.items all.cards.items → ((g : Fact) → Stands S g → Fit g) → (g : Fact) → Stands (plus l S) g → Fit g
   fits_plus (line.Root level mark) S r m k fits g =
-      with_fact Fit (Lives root) g (S.stands g) (rw (new_kept root (live_item true level mark) S.cards.items all.cards.items tt k) tt) (fits g)
+      with_fact Fit (Lives root) g (S.stands g) (rw (new_kept root (live_item (Some (mark_of mark)) level) S.cards.items all.cards.items k) refl) (fits g)
   fits_plus (line.Gate object) S r m k fits g = fits g
   fits_plus (line.Account number level guarded roles key) S r m k fits g = fits g
   fits_plus (line.Role number level kind manages key) S r m k fits g = fits g
   fits_plus (line.Container number level mark holder) S r m k fits g =
-      let new = live_item true level mark in
-      let e = new_kept number new S.cards.items all.cards.items tt k in
-      with_fact Fit (Holding holder number) g (same g (Lives number) || S.stands g) (fits_holding new number holder tt e (parts (entity_in_range number) _ r).0 m.0.1 m.1.1.0) (with_fact Fit (Lives number) g (S.stands g) (rw e tt) (fits g))
+      let new = live_item (Some (mark_of mark)) level in
+      let e = new_kept number new S.cards.items all.cards.items k in
+      with_fact Fit (Holding holder number) g (same g (Lives number) || S.stands g) (fits_holding new number holder e (parts (entity_in_range number) _ r).0 m.0.1 m.1.1.0) (with_fact Fit (Lives number) g (S.stands g) (rw e refl) (fits g))
   fits_plus (line.Object number level holder) S r m k fits g =
-      let new = live_item false level 0 in
-      let e = new_kept number new S.cards.items all.cards.items tt k in
-      with_fact Fit (Holding holder number) g (same g (Lives number) || S.stands g) (fits_holding new number holder tt e (parts (entity_in_range number) _ r).0 m.0.1 m.1.1.0) (with_fact Fit (Lives number) g (S.stands g) (rw e tt) (fits g))
+      let new = live_item None level in
+      let e = new_kept number new S.cards.items all.cards.items k in
+      with_fact Fit (Holding holder number) g (same g (Lives number) || S.stands g) (fits_holding new number holder e (parts (entity_in_range number) _ r).0 m.0.1 m.1.1.0) (with_fact Fit (Lives number) g (S.stands g) (rw e refl) (fits g))
   fits_plus (line.Session number account level program parent) S r m k fits g =
-      with_fact Fit (Lives number) g (S.stands g) (rw (new_kept number (live_item false level 0) S.cards.items all.cards.items tt k) tt) (fits g)
+      with_fact Fit (Lives number) g (S.stands g) (rw (new_kept number (live_item None level) S.cards.items all.cards.items k) refl) (fits g)
   fits_plus (line.Right role item right) S r m k fits g =
       with_fact Fit (Right role item (mode_of right)) g (S.stands g) (m.0.1, m.1.0) (fits g)
   fits_plus (line.Held session role) S r m k fits g =

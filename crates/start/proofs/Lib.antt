@@ -1,3 +1,5 @@
+pub mod Mapped
 pub mod Shapes
 pub mod Fitting
 pub mod Outcome
+pub mod Below

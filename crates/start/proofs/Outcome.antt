@@ -8,16 +8,16 @@ use Rattle.text.specs.declared.record.Fault.{Fault}
 use Rattle.text.specs.Lines.{text, Accepted, Refused}
 use Rattle.text.specs.declared.record.Refusal.{Refusal as Report}
 use Rattle.text.proofs.Unique.{Stuck, line_some, stuck_same, first_unique}
-use Rattle.model.specs.declared.answer.Answer.{Answer}
-use Rattle.model.specs.declared.answer.Answer.TheVariants as answer
+use Rattle.model.specs.declared.answer.StartRefusal.{StartRefusal}
 use Rattle.model.specs.declared.answer.Refusal.{Refusal}
+use Rattle.model.specs.Answers.{StartAnswer}
 use Rattle.model.specs.Records.{State}
 use Rattle.model.specs.Needs.{Met, Fails}
 use Rattle.model.specs.Flows.{Settles}
 use Rattle.model.proofs.Refusals.{met_fails, fails_once}
 use Rattle.model.proofs.Following.{settles_once}
 use Rattle.block.specs.declared.block.Block.{Block}
-use Rattle.block.specs.Reading.{state}
+use Rattle.block.specs.Lent.{started, block_state}
 use Rattle.start.specs.Setup.{listed}
 use Rattle.start.specs.Grounds.{asks, Clean}
 use Rattle.start.specs.Starts.{Stops, refusal_for, Refuses, first, second, Begins, Start, again, refused, accepted}
@@ -81,34 +81,34 @@ module _ (o : Order) (h : Rule) where
 
   -- ## Both readings
 
-  pub refuses_once : {bytes : List ℕ} {a b : Answer} → Refuses o h bytes a → Refuses o h bytes b → a ≡ b
+  pub refuses_once : {bytes : List ℕ} {a b : StartRefusal} → Refuses o h bytes a → Refuses o h bytes b → a ≡ b
   refuses_once {bytes} (first why {n} r) (first why' {n = n'} s) =
-      let e = refused_once bytes why why' n n' r s in λ i. answer.RefusedAt (refusal_for (e.0 i)) (e.1 i)
+      let e = refused_once bytes why why' n n' r s in λ i. record { refusal = refusal_for (e.0 i); line = e.1 i }
   refuses_once {bytes} (first why {n} r) (second {ls} read s) = absurd (accepted_refused bytes ls why n read r)
   refuses_once {bytes} (second {ls} read s) (first why {n} r) = absurd (accepted_refused bytes ls why n read r)
   refuses_once (second {ls} {why} {n} read s) (second {ls = ms} {why = why'} {n = n'} read' t) =
       let e = stops_once s (subst (λ (ks : List Line). Stops o h ks why' n') (accepted_once read' read) t) in
-      λ i. answer.RefusedAt (e.0 i) (e.1 i)
+      λ i. record { refusal = e.0 i; line = e.1 i }
 
   pub begins_once : {bytes : List ℕ} {S S' : State} → Begins o h bytes S → Begins o h bytes S' → S ≡ S'
   begins_once {S'} b c =
       settles_once b.settled (subst (λ (ks : List Line). Settles (listed ks) S') (accepted_once c.read b.read) c.settled)
 
-  pub begins_refuses : {bytes : List ℕ} {S : State} {a : Answer} → Begins o h bytes S → Refuses o h bytes a → ⊥
+  pub begins_refuses : {bytes : List ℕ} {S : State} {a : StartRefusal} → Begins o h bytes S → Refuses o h bytes a → ⊥
   begins_refuses {bytes} b (first why {n} r) = accepted_refused bytes b.lines why n b.read r
   begins_refuses b (second {ls} {why} {n} read s) =
       clean_stops b.clean (subst (λ (ks : List Line). Stops o h ks why n) (accepted_once read b.read) s)
 
-  once : {b b₁ b₂ : Block} {bytes : List ℕ} {a₁ a₂ : Answer} → Start o h b bytes a₁ b₁ → Start o h b bytes a₂ b₂ → (a₁ ≡ a₂) × (b₁.started ≡ b₂.started) × (state b₁ ≡ state b₂)
-  once {b} (again t) (again u) = (refl, refl, refl)
-  once {b} (again t) (refused f r) = absurd (both_ways b.started f t)
-  once {b} (again t) (accepted f c s) = absurd (both_ways b.started f t)
-  once {b} (refused f r) (again t) = absurd (both_ways b.started f t)
-  once (refused f r) (refused g s) = (refuses_once r s, refl, refl)
-  once (refused f r) (accepted g c s) = absurd (begins_refuses c r)
-  once {b} (accepted f c s) (again t) = absurd (both_ways b.started f t)
-  once (accepted f c s) (refused g r) = absurd (begins_refuses c r)
-  once (accepted f c s) (accepted g d t) = (refl, s ∙ sym t, begins_once c d)
+  once : {b b₁ b₂ : Block} {bytes : List ℕ} {a₁ a₂ : StartAnswer} → Start o h b bytes a₁ b₁ → Start o h b bytes a₂ b₂ → (a₁ ≡ a₂) × (started b₁ ≡ started b₂) × (block_state b₁ ≡ block_state b₂)
+  once (again t) (again u) = (refl, refl, refl)
+  once {b} (again t) (refused f r) = absurd (both_ways (started b) f t)
+  once {b} (again t) (accepted f s c) = absurd (both_ways (started b) f t)
+  once {b} (refused f r) (again t) = absurd (both_ways (started b) f t)
+  once (refused f r) (refused g s) = (ap Err (refuses_once r s), refl, refl)
+  once (refused f r) (accepted g s c) = absurd (begins_refuses c r)
+  once {b} (accepted f s c) (again t) = absurd (both_ways (started b) f t)
+  once (accepted f s c) (refused g r) = absurd (begins_refuses c r)
+  once (accepted f s c) (accepted g t d) = (refl, s ∙ sym t, begins_once c d)
 
   pub start_once : OneStart o h
   start_once b b₁ b₂ bytes a₁ a₂ s t = once s t

@@ -1,8 +1,8 @@
 -- A line by its shape.
 use Rattle.std.proofs.Common.{◌≡◌, sym, subst}
 use Rattle.text.specs.declared.record.Line.{Line}
-use Rattle.block.specs.declared.block.Block.{Block}
-use Rattle.start.specs.Setup.{Adds}
+use Rattle.model.specs.Records.{State}
+use Rattle.start.specs.Setup.{plus}
 
-pub by_shape : {l shape : Line} {b b' : Block} → l ≡ shape → Adds shape b b' → Adds l b b'
-by_shape {b} {b'} e a = subst (λ (k : Line). Adds k b b') (sym e) a
+pub adds : (S : State) {S' : State} {l shape : Line} → l ≡ shape → S' ≡ plus shape S → S' ≡ plus l S
+adds S {S'} e a = subst (λ (k : Line). S' ≡ plus k S) (sym e) a

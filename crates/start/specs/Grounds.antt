@@ -1,28 +1,30 @@
 -- What a line of the start text needs, in the order in which it is tried, each with the refusal given if it fails.
-use Rattle.std.specs.Prelude.{◌≡◌, ℕ, ◌<◌, Bool, not, ◌&&◌, T, ◌≢◌, List, [], ◌∷◌}
+use Rattle.std.specs.Prelude.{◌≡◌, ℕ, ◌<◌, Bool, not, ◌&&◌, T, ◌≢◌, List, [], ◌∷◌, is_some, IsSome}
 use Rattle.sets.specs.Member.{bit}
 use Rattle.policy.specs.Order.{Order}
 use Rattle.policy.specs.Rule.{Rule}
 use Rattle.text.specs.declared.record.Line.{Line}
 use Rattle.text.specs.declared.record.Line.TheVariants as line
 use Rattle.model.specs.declared.answer.Refusal.TheVariants as refusal
-use Rattle.model.specs.Records.{State, level}
+use Rattle.model.specs.Records.{State, account_of, role_of, item_of, level}
 use Rattle.model.specs.Form.{mode_of}
-use Rattle.model.specs.Needs.{Need, Met, Reaches, strong}
+use Rattle.model.specs.Needs.{Need, Met, Reaches, is_container, strong}
+use Rattle.block.specs.Reading.{state}
+use Rattle.start.specs.declared.lines.Grounds.{Grounds}
 use Rattle.start.specs.Setup.{again, listed}
 
 -- ## The words of the table
 
 -- an object, or a container, is defined under the number
 abbrev pub object : State → ℕ → Bool
-object S n = (S.cards.items n).used && not (S.cards.items n).container
+object S n = is_some (S.cards.items n) && not (is_container (item_of S.cards n))
 
 abbrev pub container : State → ℕ → Bool
-container S n = (S.cards.items n).used && (S.cards.items n).container
+container S n = is_container (item_of S.cards n)
 
 -- an ordinary role is defined under the number
 abbrev pub ordinary : State → ℕ → Bool
-ordinary S r = (S.cards.roles r).defined && not (S.cards.roles r).administrative
+ordinary S r = is_some (S.cards.roles r) && not (is_some (role_of S.cards r).manages)
 
 -- each role of the set passes the test
 abbrev pub Each : ℕ → (ℕ → Bool) → Type 0
@@ -49,9 +51,9 @@ module _ (o : Order) (h : Rule) (all earlier : State) where
   asks (line.Gate gate) =
       (refusal.LineUndefined, T (object all gate)) ∷ (refusal.LineLevels, level all gate ≡ o.top) ∷ []
   asks (line.Account number level guarded roles key) =
-      (refusal.LineUndefined, T (not (again (line.Account number level guarded roles key) earlier)) × Each roles (λ r. (all.cards.roles r).defined) × ObjectOrNone all key)
+      (refusal.LineUndefined, T (not (again (line.Account number level guarded roles key) earlier)) × Each roles (λ r. is_some (all.cards.roles r)) × ObjectOrNone all key)
       ∷ (refusal.LineLevelUnknown, T (o.known level))
-      ∷ (refusal.LineLevels, Each roles (λ r. o.below (all.cards.roles r).level level) × (key ≢ 0 → (all.cards.items key).level ≡ level))
+      ∷ (refusal.LineLevels, Each roles (λ r. o.below (role_of all.cards r).level level) × (key ≢ 0 → (item_of all.cards key).level ≡ level))
       ∷ []
   asks (line.Role number level kind manages key) =
       (refusal.LineUndefined, T (not (again (line.Role number level kind manages key) earlier)) × Each manages (ordinary all) × ObjectOrNone all key)
@@ -60,32 +62,36 @@ module _ (o : Order) (h : Rule) (all earlier : State) where
   asks (line.Container number level mark holder) =
       (refusal.LineUndefined, T (not (again (line.Container number level mark holder) earlier)) × T (container all holder) × (holder < number))
       ∷ (refusal.LineLevelUnknown, T (o.known level))
-      ∷ (refusal.LineLevels, level ⊑ (all.cards.items holder).level)
+      ∷ (refusal.LineLevels, level ⊑ (item_of all.cards holder).level)
       ∷ []
   asks (line.Object number level holder) =
       (refusal.LineUndefined, T (not (again (line.Object number level holder) earlier)) × T (container all holder))
       ∷ (refusal.LineLevelUnknown, T (o.known level))
-      ∷ (refusal.LineLevels, level ⊑ (all.cards.items holder).level)
+      ∷ (refusal.LineLevels, level ⊑ (item_of all.cards holder).level)
       ∷ []
   asks (line.Session number account level program parent) =
-      (refusal.LineUndefined, T (not (again (line.Session number account level program parent) earlier)) × T (all.cards.accounts account).defined × ObjectOrNone all program × (parent ≢ 0 → T (all.cards.items parent).used × (parent < number)))
+      (refusal.LineUndefined, T (not (again (line.Session number account level program parent) earlier)) × IsSome (all.cards.accounts account) × ObjectOrNone all program × (parent ≢ 0 → IsSome (all.cards.items parent) × (parent < number)))
       ∷ (refusal.LineLevelUnknown, T (o.known level))
-      ∷ (refusal.LineLevels, (level ⊑ (all.cards.accounts account).level) × (parent ≢ 0 → level ⊑ (all.cards.items parent).level))
+      ∷ (refusal.LineLevels, (level ⊑ (account_of all.cards account).level) × (parent ≢ 0 → level ⊑ (item_of all.cards parent).level))
       ∷ []
   asks (line.Right role item right) =
-      (refusal.LineUndefined, T (all.cards.roles role).defined × T (all.cards.items item).used)
-      ∷ (refusal.LineLevels, Under right (level all item) (all.cards.roles role).level)
+      (refusal.LineUndefined, IsSome (all.cards.roles role) × IsSome (all.cards.items item))
+      ∷ (refusal.LineLevels, Under right (level all item) (role_of all.cards role).level)
       ∷ []
   asks (line.Held session role) =
-      (refusal.LineUndefined, T (all.cards.items session).used × T (all.cards.roles role).defined × T (bit (all.cards.accounts (all.cards.account session)).takes role))
-      ∷ (refusal.LineLevels, (all.cards.roles role).level ⊑ level all session)
+      (refusal.LineUndefined, IsSome (all.cards.items session) × IsSome (all.cards.roles role) × T (bit (account_of all.cards (all.cards.account session)).takes role))
+      ∷ (refusal.LineLevels, (role_of all.cards role).level ⊑ level all session)
       ∷ (refusal.LineRule, T (h (all.cards.account session) (earlier.cards.life session) role))
       ∷ []
   asks (line.Access session item access) =
-      (refusal.LineUndefined, T (all.cards.items session).used × T (all.cards.items item).used)
+      (refusal.LineUndefined, IsSome (all.cards.items session) × IsSome (all.cards.items item))
       ∷ (refusal.LineLevels, Under access (level all item) (level all session))
       ∷ (refusal.LineNotReached, Reaches o all session item)
       ∷ []
+
+-- what a line asks, on what the code tries it
+abbrev pub needs : {O R : Type 0} → (O → Order) → (R → Rule) → Grounds O R → Line → List Need
+needs meaning answers g l = asks (meaning g.order.now) (answers g.rule.now) (state g.all.now) (state g.earlier.now) l
 
 -- the needs of each of these lines are met, where all lines list `all`
 abbrev pub Clean : Order → Rule → State → List Line → Type 0

@@ -4,15 +4,11 @@ ghost use Rattle.start.specs.Laws.{OneStart, SoundStart};
 use policy::{HouseRule, LevelOrder};
 
 /// The state that an accepted text begins keeps to the level conditions, and all that follows stands in it.
-pub fn start_is_sound<O: LevelOrder, R: HouseRule>(o: &O, r: &R) -> u8
+pub fn start_is_sound<O: LevelOrder, R: HouseRule>(o: &O, r: &R)
     ensures { SoundStart (O.meaning o.now) (R.answers r.now) }
-{
-    0
-}
+{}
 
-/// A text leaves one answer at a block, and one state after it.
-pub fn one_start<O: LevelOrder, R: HouseRule>(o: &O, r: &R) -> u8
+/// A text leaves one answer at a records, and one state after it.
+pub fn one_start<O: LevelOrder, R: HouseRule>(o: &O, r: &R)
     ensures { OneStart (O.meaning o.now) (R.answers r.now) }
-{
-    0
-}
+{}

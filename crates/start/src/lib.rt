@@ -4,7 +4,6 @@
 mod define;
 pub mod laws;
 mod lines;
-pub mod reading;
 mod second;
 mod starting;
 mod words;

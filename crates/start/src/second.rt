@@ -8,19 +8,17 @@ ghost use Rattle.start.specs.Starts.{Second};
 
 use crate::define::define;
 use crate::lines::judge;
-use crate::reading::Stop;
-use block::Block;
+use block::Records;
+use model::StartRefusal;
 use policy::{HouseRule, LevelOrder};
 use text::record::Line;
-use text::walk::{begin, step};
+use text::walk::lines;
 
 /// Fills an empty block with what the lines of an accepted text define.
-pub(crate) fn fill(text: &[u8], all: &mut Block)
-    ensures state { (ls : List Line) → Accepted text.now ls → state all.old ≡ empty → state all.new ≡ listed ls }
-    ensures started { all.new.started ≡ all.old.started }
+pub(crate) fn fill(text: &[u8], all: &mut Records)
+    ensures { (ls : List Line) → Accepted text.now ls → state all.old ≡ empty → state all.new ≡ listed ls }
 {
-    let mut reader = begin(text);
-    while let Some(line) = step(&mut reader) {
+    for (_, line) in lines(text) {
         define(all, line);
     }
 }
@@ -30,19 +28,16 @@ pub(crate) fn second_reading<O: LevelOrder, R: HouseRule>(
     order: &O,
     rule: &R,
     text: &[u8],
-    all: &Block,
-    earlier: &mut Block,
-) -> Result<(), Stop>
+    all: &Records,
+    earlier: &mut Records,
+) -> Result<(), StartRefusal>
     ensures { (ls : List Line) → Accepted text.now ls → state all.now ≡ listed ls → state earlier.old ≡ empty → Second (O.meaning order.now) (R.answers rule.now) ls result }
 {
-    let mut reader = begin(text);
-    while let Some(line) = step(&mut reader) {
-        if let Err(refusal) = judge(order, rule, all, earlier, line) {
-            return Err(Stop {
-                refusal,
-                line: reader.lines(),
-            });
-        }
+    for (number, line) in lines(text) {
+        judge(order, rule, all, earlier, line).map_err(|refusal| StartRefusal {
+            refusal,
+            line: number,
+        })?;
         define(earlier, line);
     }
     Ok(())

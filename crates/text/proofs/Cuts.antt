@@ -1,11 +1,8 @@
 -- Lists cut at a byte. Assumes nothing.
-use Rattle.std.proofs.Common.{◌≡◌, ℕ, ◌+◌, ◌-◌, ◌<◌, ◌≤◌, List, [], ◌∷◌, ◌++◌, length, get_or, take, drop, sym, refl, ap, ◌∙◌, subst, add-one, arith, length-append, take-append-drop}
+use Rattle.std.proofs.Common.{◌≡◌, ℕ, ◌+◌, ◌-◌, ◌<◌, List, [], ◌∷◌, ◌++◌, length, get_or, take, drop, sym, refl, ap, ◌∙◌, subst, add-one, arith, length-append, take-append-drop}
 use Rattle.std.proofs.lemmas.List.{drop_more, get_or-take, length-take-le, take_rest}
 use Rattle.std.proofs.ByRecursion.{All-from_get_or}
 use Rattle.text.specs.Cut.{Lacks, CutAt}
-
-pub lacks_read : (b : ℕ) (xs : List ℕ) (n : ℕ) → length xs ≤ n → ((k : ℕ) → k < n → get_or xs k 0 ≡ b → ⊥) → Lacks b xs
-lacks_read b xs n le h = All-from_get_or (λ x. x ≡ b → ⊥) xs 0 (λ i l. h i (omega arith))
 
 -- a list is cut where b is found first
 cut_read : (b : ℕ) (xs : List ℕ) (n : ℕ) → n < length xs → ((k : ℕ) → k < n → get_or xs k 0 ≡ b → ⊥) → get_or xs n 0 ≡ b → CutAt b xs (take n xs) (drop (n + 1) xs)
@@ -38,7 +35,5 @@ pub cut_length : {b : ℕ} {xs front back : List ℕ} → CutAt b xs front back 
 cut_length {b} {xs} {front} {back} c = ap length c.whole ∙ length-append front (b ∷ back) ∙ ap (λ k. length front + k) (sym (add-one (length back)))
 
 -- the parts, as slices have them
-pub slices_cut : (b : ℕ) (xs : List ℕ) (n : ℕ) → n < length xs → ((k : ℕ) → k < n → get_or xs k 0 ≡ b → ⊥) → get_or xs n 0 ≡ b → CutAt b xs (take (n - 0) xs) (take (length xs - (n + 1)) (drop (n + 1) xs))
-slices_cut b xs n l before found =
-    let front : n ≡ n - 0 = omega arith in
-    subst (λ t. CutAt b xs (take (n - 0) xs) t) (sym (take_rest xs (n + 1))) (subst (λ k. CutAt b xs (take k xs) (drop (n + 1) xs)) front (cut_read b xs n l before found))
+pub slices_cut : (b : ℕ) (xs : List ℕ) (n : ℕ) → n < length xs → ((k : ℕ) → k < n → get_or xs k 0 ≡ b → ⊥) → get_or xs n 0 ≡ b → CutAt b xs (take n xs) (take (length xs - (n + 1)) (drop (n + 1) xs))
+slices_cut b xs n l before found = subst (CutAt b xs (take n xs)) (sym (take_rest xs (n + 1))) (cut_read b xs n l before found)

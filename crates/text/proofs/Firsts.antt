@@ -1,11 +1,11 @@
 -- The first reading, line by line. Assumes nothing.
-use Rattle.std.proofs.Common.{◌≡◌, ℕ, ◌+◌, ◌<◌, ◌≤◌, List, [], ◌∷◌, ◌++◌, length, sym, refl, ap, ◌∙◌, inl, inr, append_assoc, append-nil, add-one, arith, length-append}
-use Rattle.std.proofs.lemmas.List.{nil_from_length, length_push}
+use Rattle.std.proofs.Common.{◌≡◌, ℕ, ◌+◌, ◌<◌, ◌≤◌, List, [], ◌∷◌, ◌++◌, length, sym, refl, ap, ◌∙◌, inr, append_assoc, add-one, arith, length-append}
+use Rattle.std.proofs.lemmas.List.{length_push}
 use Rattle.text.specs.declared.record.Line.{Line}
 use Rattle.text.specs.declared.record.Entry.{Entry}
 use Rattle.text.specs.declared.record.Fault.{Fault}
 use Rattle.text.specs.declared.record.Fault.TheVariants.{Size, Form, Order, Range}
-use Rattle.text.specs.Lines.{body, line_text, text, Sound, Malformed, Misplaced, OutOfRange, StopsAt, Refused, Accepted, follows, in_range}
+use Rattle.text.specs.Lines.{body, line_text, text, Sound, Malformed, Misplaced, OutOfRange, StopsAt, Refused, follows, in_range}
 use Rattle.text.specs.Post.{Reads, Next, Wrong, entry_follows, entry_in_range}
 use Rattle.text.proofs.Ranges.{Last, small, follows_held, range_held}
 
@@ -28,12 +28,6 @@ shorter {bytes} {after} r = omega (arith, ap length r.text, length-append (line_
 module _ {bytes left : List ℕ} {n : ℕ} {last : Entry} (s : Sofar bytes left n last) where
   stop : (faulty : List Line → List ℕ → Type 0) → faulty s.lines left → StopsAt bytes (n + 1) faulty
   stop faulty f = record { size = s.size; lines = s.lines; left = left; whole = s.whole; sound = s.sound; next = ap (λ k. k + 1) s.count; fault = f }
-
-  pub missing : length left ≡ 0 → n < 2 → StopsAt bytes (n + 1) Misplaced
-  missing none h = stop Misplaced (inl (nil_from_length left none, omega (arith, s.count)))
-
-  pub accepted : length left ≡ 0 → 2 ≤ n → Accepted bytes s.lines
-  accepted none h = record { size = s.size; whole = s.whole ∙ ap (λ t. text s.lines ++ t) (nil_from_length left none) ∙ append-nil (text s.lines); sound = s.sound; both = omega (arith, s.count) }
 
   module _ {after : List ℕ} {e : Entry} (r : Reads left e after) where
     placed : entry_follows n last e ≡ follows s.lines r.line

@@ -1,4 +1,5 @@
 pub mod Options
+pub mod Lists
 pub mod Cuts
 pub mod Numerals
 pub mod Digits

@@ -10,7 +10,7 @@ use Rattle.std.proofs.lemmas.Bool.{cases_eq}
 use Rattle.std.proofs.lemmas.Bool.Decides.{nat_tests}
 use Rattle.text.specs.Lines.{numeral}
 use Rattle.text.specs.Cut.{Lacks}
-use Rattle.text.specs.Post.{is_decimal, leading_zero, Writes}
+use Rattle.text.specs.Post.{leading_zero, Writes}
 
 abbrev pub Digit : ℕ → Type 0
 Digit c = (48 ≤ c) × (c ≤ 57)
@@ -127,13 +127,7 @@ not_numeral s h n e = h (subst Plain (sym e) (plain n))
 pub not_digit : (s : List ℕ) (i : ℕ) → i < length s → (Digit (get_or s i 0) → ⊥) → (n : ℕ) → s ≡ numeral n → ⊥
 not_digit s i l h = not_numeral s (λ p. h (All-get_or Digit s i 0 l p.digits))
 
--- the tests that the code makes
-pub digit : (c : ℕ) → is_decimal c ≡ true → Digit c
-digit c h = (grind (arith, nat_tests), grind (arith, nat_tests))
-
-pub no_digit : (c : ℕ) → is_decimal c ≡ false → Digit c → ⊥
-no_digit c h d = grind (arith, nat_tests)
-
+-- the test that the code makes
 pub zero_led : (s : List ℕ) → leading_zero s ≡ true → (n : ℕ) → s ≡ numeral n → ⊥
 zero_led s h = let zero : get_or s 0 0 ≡ 48 = grind (arith, nat_tests) in let many : 1 < length s = grind (arith, nat_tests) in not_numeral s (λ p. omega (arith, p.lead zero))
 

@@ -1,22 +1,16 @@
--- The line of a request, read. Assumes nothing.
-use Rattle.std.proofs.Common.{◌≡◌, ℕ, ◌^◌, ◌<◌, List, ◌∷◌, ◌++◌, length, get_or, codes, sym, refl, ◌∙◌, subst, arith}
+-- The numbers behind a key, read. Assumes nothing.
+use Rattle.std.proofs.Common.{◌≡◌, ℕ, ◌^◌, ◌<◌, List, ◌++◌, length, get_or, sym, ◌∙◌, subst, arith}
 use Rattle.std.proofs.ByRecursion.{All-get_or, All-from_get_or}
 use Rattle.std.proofs.lemmas.List.{same_lists, get_or_default}
-use Rattle.text.specs.Cut.{Lacks, CutAt}
+use Rattle.std.proofs.lemmas.List.Prefix.{front_rest}
 use Rattle.text.specs.Lines.{commas}
 use Rattle.text.specs.Post.{Holds, Row}
-use Rattle.text.specs.Requests.{Narrow, Request}
-use Rattle.text.proofs.Bodies.{lacks_byte, lacks}
-use Rattle.text.proofs.Cuts.{cut_same}
+use Rattle.text.specs.Requests.{Narrow, Keyed}
 use Rattle.text.proofs.Unique.{commas_same}
 
--- the bytes are no request
-abbrev pub NoRequest : List ℕ → Type 0
-NoRequest line = (ns : List ℕ) → Request line ns → ⊥
-
-key_lacks : Lacks 61 (codes "request")
-unfolding lacks_byte
-key_lacks = lacks 61 (codes "request") refl
+-- the bytes are no such line
+abbrev pub NotKeyed : List ℕ → ℕ → List ℕ → Type 0
+NotKeyed key n line = (ns : List ℕ) → Keyed key n line ns → ⊥
 
 -- numbers that are held as narrow ones are those
 held_narrow : (vs ns : List ℕ) → length vs ≡ length ns → Holds vs ns → Narrow vs → ns ≡ vs
@@ -31,23 +25,27 @@ held_narrow vs ns long h small = same_lists ns vs (sym long) at
 narrow_held : (vs ns : List ℕ) → length vs ≡ length ns → Holds vs ns → Narrow ns → Narrow vs
 narrow_held vs ns long h small = All-from_get_or (λ n. n < 2 ^ 32) vs 0 (λ k l. omega (arith, h k, All-get_or (λ n. n < 2 ^ 32) ns k 0 (omega arith) small))
 
-module _ {line name left : List ℕ} (cut : CutAt 61 line name left) where
-  parts : (ns : List ℕ) → Request line ns → (name ≡ codes "request") × (left ≡ commas ns)
-  parts ns r = cut_same 61 name (codes "request") left (commas ns) cut.first key_lacks (sym cut.whole ∙ r.text)
+pub no_front : {key line : List ℕ} {n : ℕ} → ((rest : List ℕ) → line ≡ key ++ rest → ⊥) → NotKeyed key n line
+no_front h ns e = h (commas ns) e.text
 
-  pub no_key : (name ≡ codes "request" → ⊥) → NoRequest line
-  no_key h ns r = h (parts ns r).0
+module _ {key line left : List ℕ} {n : ℕ} (cut : line ≡ key ++ left) where
+  behind : (ns : List ℕ) → Keyed key n line ns → left ≡ commas ns
+  behind ns e = sym (front_rest line key left cut) ∙ front_rest line key (commas ns) e.text
 
-  pub beyond : {vs : List ℕ} → Row left 8 8 vs → (Narrow vs → ⊥) → NoRequest line
-  beyond {vs} row h ns r =
-      let same = commas_same row.values ns (row.long ∙ sym r.long) (sym row.text ∙ (parts ns r).1) in
-      h (narrow_held vs ns (row.places ∙ sym r.long) (subst (Holds vs) same row.held) r.narrow)
+  pub beyond : {vs : List ℕ} → Row left n n vs → (Narrow vs → ⊥) → NotKeyed key n line
+  beyond {vs} row h ns e =
+      let same = commas_same row.values ns (row.long ∙ sym e.long) (sym row.text ∙ behind ns e) in
+      h (narrow_held vs ns (row.places ∙ sym e.long) (subst (Holds vs) same row.held) e.narrow)
 
-  pub request : {vs : List ℕ} → name ≡ codes "request" → Row left 8 8 vs → Narrow vs → Request line vs
-  request {vs} is row small =
+  pub keyed : {vs : List ℕ} → Row left n n vs → Narrow vs → Keyed key n line vs
+  keyed {vs} row small =
       let same = held_narrow vs row.values (row.places ∙ sym row.long) row.held small in
       record {
-        text = cut.whole ∙ (λ i. is i ++ 61 ∷ (row.text ∙ (λ j. commas (same j))) i);
+        text = cut ∙ (λ i. key ++ (row.text ∙ (λ j. commas (same j))) i);
         long = row.places;
         narrow = small;
       }
+
+-- a line has one list of numbers behind a key
+pub one_keyed : {key line ns ms : List ℕ} {n : ℕ} → Keyed key n line ns → Keyed key n line ms → ns ≡ ms
+one_keyed {key} {line} {ns} {ms} e f = commas_same ns ms (e.long ∙ sym f.long) (behind e.text ms f)

@@ -1,6 +1,7 @@
 -- Numbers with commas between, read one by one. Assumes nothing.
-use Rattle.std.proofs.Common.{◌≡◌, ℕ, zero, suc, ◌+◌, ◌<◌, ◌≤◌, List, [], ◌∷◌, ◌++◌, length, get_or, set, replicate, sym, refl, ap, ◌∙◌, subst, ⊎_elim, append_assoc, arith, length-append, length-set}
-use Rattle.std.proofs.lemmas.List.{get_or-set_same, get_or-set_other, get_or_append_left, get_or_push, length_push, get_or_past}
+use Rattle.std.proofs.Common.{◌≡◌, ℕ, zero, suc, ◌+◌, ◌-◌, ◌<◌, ◌≤◌, List, [], ◌∷◌, ◌++◌, length, get_or, set, drop, replicate, sym, refl, ap, ◌∙◌, subst, ⊎_elim, append_assoc, arith, length-append, length-set}
+use lib.ListN.{length-replicate}
+use Rattle.std.proofs.lemmas.List.{drop-replicate, get_or-set_same, get_or-set_other, get_or_append_left, get_or_push, length_push, get_or_past}
 use Rattle.std.proofs.lemmas.Bool.{cases_eq, cases_lt}
 use Rattle.text.specs.Cut.{Lacks, CutAt}
 use Rattle.text.specs.Lines.{numeral, commas}
@@ -8,7 +9,7 @@ use Rattle.text.specs.Post.{Writes, Holds, NoRow, Row, capped}
 use Rattle.text.proofs.Cuts.{cut_same, uncut}
 use Rattle.text.proofs.Numerals.{numeral_same, numeral_lacks}
 
--- the first i of count numbers are read from `whole`, and `left` is left
+-- the first i of count numbers are read from `whole`, into the front of vs, and `left` is left
 pub record Sofar (whole left : List ℕ) (count size i : ℕ) (vs : List ℕ) : Type 0 where
   pub values : List ℕ
   pub long : length values ≡ i
@@ -18,17 +19,26 @@ pub record Sofar (whole left : List ℕ) (count size i : ℕ) (vs : List ℕ) : 
   pub back : (ks : List ℕ) → length ks ≡ count → whole ≡ commas ks → (ms : List ℕ) × (ks ≡ values ++ ms) × (left ≡ commas ms)
 
 -- zeros hold no numbers
-pub holds_none : (n : ℕ) → Holds (replicate n 0) []
+holds_none : (n : ℕ) → Holds (replicate n 0) []
 holds_none zero j = refl
 holds_none (suc n) zero = refl
 holds_none (suc n) (suc j) = holds_none n j
 
-pub start : (whole : List ℕ) (count size : ℕ) (vs : List ℕ) → length vs ≡ size → Holds vs [] → Sofar whole whole count size 0 vs
-start whole count size vs five h = record {
+-- and so do zeros behind
+holds_more : (vs ns : List ℕ) (n : ℕ) → length ns ≤ length vs → Holds vs ns → Holds (vs ++ replicate n 0) ns
+holds_more [] [] n l h j = holds_none n j
+holds_more [] (m ∷ ns) n l h j = absurd (omega arith)
+holds_more (v ∷ vs) [] n l h zero = h zero
+holds_more (v ∷ vs) [] n l h (suc j) = holds_more vs [] n (omega arith) (λ k. h (suc k)) j
+holds_more (v ∷ vs) (m ∷ ns) n l h zero = h zero
+holds_more (v ∷ vs) (m ∷ ns) n l h (suc j) = holds_more vs ns n (omega arith) (λ k. h (suc k)) j
+
+pub start : (whole : List ℕ) (count size : ℕ) → Sofar whole whole count size 0 (replicate size 0)
+start whole count size = record {
   values = [];
   long = refl;
-  places = five;
-  held = h;
+  places = length-replicate size 0;
+  held = holds_none size;
   on = λ ms _ e. e;
   back = λ ks _ e. (ks, refl, e);
 }
@@ -64,7 +74,7 @@ final left [] h e = absurd (omega arith)
 final left (m ∷ []) h e = (m, refl, e)
 final left (m ∷ k ∷ ms) h e = absurd (omega arith)
 
-module _ {whole left vs : List ℕ} {count size i : ℕ} (most : count ≤ size) (s : Sofar whole left count size i vs) where
+module _ {whole left vs : List ℕ} {count size i : ℕ} (room : count ≤ size + 1) (s : Sofar whole left count size i vs) where
   remain : (ks ms : List ℕ) → length ks ≡ count → ks ≡ s.values ++ ms → length ms + i ≡ count
   remain ks ms l e = omega (arith, ap length e, length-append s.values ms, s.long)
 
@@ -103,11 +113,17 @@ module _ {whole left vs : List ℕ} {count size i : ℕ} (most : count ≤ size)
         (n.1, b.1 ∙ ap (λ t. s.values ++ t) (n.2 ∙ ap (λ k. k ∷ n.1) same) ∙ sym (append_assoc s.values (w.value ∷ []) n.1), c.1);
   }
 
-  pub done : {v : ℕ} → i + 1 ≡ count → Writes left v → Row whole count size (set vs i v)
-  done {v} h w = record {
-    values = s.values ++ w.value ∷ [];
-    long = length_push s.values w.value ∙ ap (λ k. k + 1) s.long ∙ h;
-    text = s.on (w.value ∷ []) (omega arith) w.text;
-    places = length-set vs i v ∙ s.places;
-    held = hold vs s.values i w.value v s.long (omega (arith, s.places)) w.held s.held;
-  }
+  -- the last number, into the first of the places behind
+  pub done : (places : ℕ) {v : ℕ} → count ≤ places → i + 1 ≡ count → size ≡ i → Writes left v → Row whole count places (set (vs ++ drop size (replicate places 0)) size v)
+  done places {v} most h full w =
+      let behind = drop-replicate {X = ℕ} size places 0 in
+      let ws = vs ++ replicate (places - size) 0 in
+      let zeros = length-replicate {A = ℕ} (places - size) 0 in
+      let long : length ws ≡ places = omega (arith, length-append vs (replicate (places - size) 0), s.places, zeros) in
+      rw behind (record {
+        values = s.values ++ w.value ∷ [];
+        long = length_push s.values w.value ∙ ap (λ k. k + 1) s.long ∙ h;
+        text = s.on (w.value ∷ []) (omega arith) w.text;
+        places = length-set ws size v ∙ long;
+        held = hold ws s.values size w.value v (s.long ∙ sym full) (omega (arith, long)) w.held (holds_more vs s.values (places - size) (omega (arith, s.places, s.long)) s.held);
+      })

@@ -4,7 +4,6 @@ use Rattle.std.proofs.lemmas.Bool.{both_ways, cases_lt}
 use Rattle.text.specs.declared.record.Fault.{Fault}
 use Rattle.text.specs.declared.record.Fault.TheVariants.{Size, Form, Order, Range}
 use Rattle.text.specs.declared.record.Line.{Line}
-use Rattle.text.specs.declared.record.Line.TheVariants.{Root, Gate, Account, Role, Container, Object, Session, Right, Held, Access}
 use Rattle.text.specs.Lines.{key_text, key_of, numbers, numeral, commas, body, line_text, text, Sound, follows, in_range, Begins, Malformed, Misplaced, OutOfRange, Refused, First, FirstUnique}
 use Rattle.text.specs.Post.{arity, line_of}
 use Rattle.text.proofs.Cuts.{cut_same}
@@ -26,16 +25,7 @@ commas_same (n ∷ j ∷ ns) (m ∷ k ∷ ms) l e =
     λ i. head i ∷ tail i
 
 pub line_back : (l : Line) → line_of (key_of l) (numbers l) ≡ l
-line_back (Root a b) = refl
-line_back (Gate a) = refl
-line_back (Account a b c d e) = refl
-line_back (Role a b c d e) = refl
-line_back (Container a b c d) = refl
-line_back (Object a b c) = refl
-line_back (Session a b c d e) = refl
-line_back (Right a b c) = refl
-line_back (Held a b) = refl
-line_back (Access a b c) = refl
+line_back l = grind arith
 
 body_same : (l m : Line) → body l ≡ body m → l ≡ m
 body_same l m e =

@@ -5,3 +5,4 @@ pub mod Post
 pub mod Walks
 pub mod Written
 pub mod Requests
+pub mod Inputs

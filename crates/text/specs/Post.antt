@@ -1,5 +1,5 @@
 -- What the functions of the first reading find. Assumes nothing.
-use Rattle.std.specs.Prelude.{◌≡◌, ℕ, ◌^◌, min, Bool, true, false, cond, ◌&&◌, ◌||◌, List, ◌++◌, length, ◌==◌, ◌≢◌, nat_le, nat_lt, slice_index}
+use Rattle.std.specs.Prelude.{◌≡◌, ℕ, ◌^◌, min, Bool, true, false, if◌then◌else◌, ◌&&◌, ◌||◌, List, ◌++◌, length, ◌==◌, ◌≢◌, nat_lt, slice_index}
 use Rattle.text.specs.declared.record.Key.{Key}
 use Rattle.text.specs.declared.record.Key.TheVariants as key
 use Rattle.text.specs.declared.record.Line.{Line}
@@ -8,9 +8,6 @@ use Rattle.text.specs.declared.record.Entry.{Entry}
 use Rattle.text.specs.declared.record.Fault.{Fault}
 use Rattle.text.specs.declared.record.Fault.TheVariants as fault
 use Rattle.text.specs.Lines.{NoLine, numeral, commas, body, line_text, key_of, numbers, rank, below, level_in_range, mark_in_range, entity_in_range, session_in_range, item_in_range, is_zero, set_in_range, access_in_range, right_in_range, access_fits}
-
-abbrev pub is_decimal : ℕ → Bool
-is_decimal b = nat_le 48 b && nat_le b 57
 
 -- a 0 stands before other bytes
 abbrev pub leading_zero : List ℕ → Bool
@@ -80,7 +77,7 @@ entry_before p e = nat_lt (rank p.key) (rank e.key) || (rank p.key == rank e.key
 
 -- after n lines, of which p is the last
 abbrev pub entry_follows : ℕ → Entry → Entry → Bool
-entry_follows n p e = cond (nat_lt n 2) (rank e.key == n) (nat_lt 1 (rank e.key) && entry_before p e)
+entry_follows n p e = if nat_lt n 2 then rank e.key == n else (nat_lt 1 (rank e.key) && entry_before p e)
 
 abbrev pub range_at : Key → ℕ → ℕ → ℕ → ℕ → ℕ → Bool
 range_at key.Root a b c d e = level_in_range a && mark_in_range b

@@ -1,6 +1,7 @@
 //! Reading the start text, and writing numbers and report lines.
 #![tactic(auto)]
 
+pub mod input;
 pub mod numbers;
 pub mod part;
 pub mod reader;

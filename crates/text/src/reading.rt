@@ -1,40 +1,31 @@
 //! The first reading.
-ghost use Rattle.std.specs.Prelude.{◌≡◌, ◌+◌, MatchOption, MatchResult, ◌≢◌};
+ghost use Rattle.std.specs.Prelude.{◌≡◌, ◌+◌, ◌<◌, length, MatchOption, MatchResult, ◌≢◌};
+ghost use Rattle.text.specs.declared.record.Line.{Line};
 ghost use Rattle.text.specs.Lines.{key_text, body, rank, NoLine, First, FirstUnique, level_in_range, entity_in_range, session_in_range, item_in_range, access_in_range};
 ghost use Rattle.text.specs.Post.{Says, Reads, Next, Wrong, arity, entry_before, entry_follows, entry_in_range};
 ghost use Rattle.text.specs.Rest.{rest};
 
 use crate::numbers::{BEYOND, row};
-use crate::part::{Part, same};
+use crate::part::cut;
 use crate::reader::Reader;
-use crate::record::{Entry, Fault, Key, Line, Refusal};
+use crate::record::{Entry, Fault, Key, Refusal};
 
 /// The key that the bytes name.
 pub(crate) fn key_of(s: &[u8]) -> Option<Key>
     ensures { MatchOption result ((k : Key) → s.now ≢ key_text k) (λ k. s.now ≡ key_text k) }
 {
-    if same(s, b"root") {
-        Some(Key::Root)
-    } else if same(s, b"gate") {
-        Some(Key::Gate)
-    } else if same(s, b"account") {
-        Some(Key::Account)
-    } else if same(s, b"role") {
-        Some(Key::Role)
-    } else if same(s, b"container") {
-        Some(Key::Container)
-    } else if same(s, b"object") {
-        Some(Key::Object)
-    } else if same(s, b"session") {
-        Some(Key::Session)
-    } else if same(s, b"right") {
-        Some(Key::Right)
-    } else if same(s, b"held") {
-        Some(Key::Held)
-    } else if same(s, b"access") {
-        Some(Key::Access)
-    } else {
-        None
+    match s {
+        b"root" => Some(Key::Root),
+        b"gate" => Some(Key::Gate),
+        b"account" => Some(Key::Account),
+        b"role" => Some(Key::Role),
+        b"container" => Some(Key::Container),
+        b"object" => Some(Key::Object),
+        b"session" => Some(Key::Session),
+        b"right" => Some(Key::Right),
+        b"held" => Some(Key::Held),
+        b"access" => Some(Key::Access),
+        _ => None,
     }
 }
 
@@ -51,52 +42,30 @@ impl Key {
             Key::Account | Key::Role | Key::Session => 5,
         }
     }
-
-    /// The place of the key in the order of keys.
-    pub(crate) fn place(self) -> u8
-        ensures { result ≡ rank self }
-    {
-        self as u8
-    }
 }
 
 /// A line, without the byte 10 that ends it.
-pub(crate) fn entry(mut line: Part) -> Option<Entry>
-    ensures { MatchOption result ((l : Line) → line.entry.bytes.now ≢ body l) (λ e. Says line.entry.bytes.now e) }
+pub(crate) fn entry(line: &[u8]) -> Option<Entry>
+    ensures { MatchOption result ((l : Line) → line.now ≢ body l) (λ e. Says line.now e) }
 {
-    let key = key_of(line.field(b'=')?.bytes)?;
-    let numbers = row(line, key.count())?;
+    let (name, list) = cut(line, b'=')?;
+    let key = key_of(name)?;
+    let numbers = row(list, key.count())?;
     Some(Entry { key, numbers })
-}
-
-// Does `p` come before `e`: by its key, and then by the first number in which they differ?
-fn precedes(p: &Entry, e: &Entry) -> bool
-    ensures { result ≡ entry_before p.now e.now }
-{
-    let (a, b) = (p.key.place(), e.key.place());
-    if a != b {
-        return a < b;
-    }
-    for i in 0..5 {
-        if p.numbers[i] != e.numbers[i] {
-            return p.numbers[i] < e.numbers[i];
-        }
-    }
-    false
 }
 
 // May `e` come after so many lines, of which `last` is the last?
 fn may_follow(lines: usize, last: &Entry, e: &Entry) -> bool
     ensures { result ≡ entry_follows lines last.now e.now }
 {
-    let place = e.key.place();
-    if lines < 2 {
-        place as usize == lines
-    } else {
-        place > 1 && precedes(last, e)
+    match lines {
+        0 => e.key == Key::Root,
+        1 => e.key == Key::Gate,
+        _ => e.key > Key::Gate && last < e,
     }
 }
 
+// A test for each range that the format names: with constant ranges in their place the proof of `in_range` did not close.
 fn is_level(n: u64) -> bool
     ensures { result ≡ level_in_range n }
 {
@@ -106,25 +75,25 @@ fn is_level(n: u64) -> bool
 fn is_entity(n: u64) -> bool
     ensures { result ≡ entity_in_range n }
 {
-    64 <= n && n <= 255
+    (64..=255).contains(&n)
 }
 
 fn is_session(n: u64) -> bool
     ensures { result ≡ session_in_range n }
 {
-    1 <= n && n <= 63
+    (1..=63).contains(&n)
 }
 
 fn is_item(n: u64) -> bool
     ensures { result ≡ item_in_range n }
 {
-    1 <= n && n <= 255
+    (1..=255).contains(&n)
 }
 
 fn is_access(n: u64) -> bool
     ensures { result ≡ access_in_range n }
 {
-    n == 1 || n == 2 || n == 8
+    matches!(n, 1 | 2 | 8)
 }
 
 /// Are the numbers of a line in their ranges?
@@ -163,18 +132,17 @@ pub(crate) fn next_entry(reader: &mut Reader) -> Option<Entry>
 }
 
 // The next line, if it may come after those that were read, of which `last` is the last.
-fn next_sound(reader: &mut Reader, last: &Entry) -> Result<Entry, Fault>
-    ensures { MatchResult result (λ e. Next reader.old.lines last.now (rest reader.old) e (rest reader.new) × (reader.new.lines ≡ reader.old.lines + 1)) (λ f. Wrong f reader.old.lines last.now (rest reader.old)) }
+fn next_sound(reader: &mut Reader, last: &Entry) -> Result<Entry, Refusal>
+    ensures { MatchResult result (λ e. Next reader.old.lines last.now (rest reader.old) e (rest reader.new) × (reader.new.lines ≡ reader.old.lines + 1)) (λ r. Wrong r.fault reader.old.lines last.now (rest reader.old) × (0 < length (rest reader.old) → r.line ≡ reader.old.lines + 1)) }
 {
     let lines = reader.lines();
-    let Some(e) = next_entry(reader) else {
-        return Err(Fault::Form);
-    };
+    let line = lines.saturating_add(1);
+    let e = next_entry(reader).ok_or(Fault::Form.at(line))?;
     if !may_follow(lines, last, &e) {
-        return Err(Fault::Order);
+        return Err(Fault::Order.at(line));
     }
     if !in_range(&e) {
-        return Err(Fault::Range);
+        return Err(Fault::Range.at(line));
     }
     Ok(e)
 }
@@ -187,10 +155,7 @@ pub fn first_reading(text: &[u8]) -> Result<usize, Refusal>
     ensures { First text.now result }
 {
     if text.len() > LIMIT {
-        return Err(Refusal {
-            fault: Fault::Size,
-            line: 0,
-        });
+        return Err(Fault::Size.at(0));
     }
     let mut reader = Reader::new(text);
     let mut last = Entry {
@@ -198,25 +163,16 @@ pub fn first_reading(text: &[u8]) -> Result<usize, Refusal>
         numbers: [0; 5],
     };
     while !reader.is_done() {
-        let line = reader.lines() + 1;
-        match next_sound(&mut reader, &last) {
-            Ok(e) => last = e,
-            Err(fault) => return Err(Refusal { fault, line }),
-        }
+        last = next_sound(&mut reader, &last)?;
     }
     let lines = reader.lines();
     if lines < 2 {
-        return Err(Refusal {
-            fault: Fault::Order,
-            line: lines + 1,
-        });
+        return Err(Fault::Order.at(lines + 1));
     }
     Ok(lines)
 }
 
 /// That each text has one outcome.
-pub fn one_outcome() -> u8
+pub fn one_outcome()
     ensures { FirstUnique }
-{
-    0
-}
+{}

@@ -1,15 +1,17 @@
 //! A walk over the lines of an accepted text.
-ghost use Rattle.std.specs.Prelude.{◌≡◌, ℕ, ◌^◌, ◌<◌, true, List, [], ◌∷◌, length, IfSome, MatchOption, OnSome, slice_index};
-ghost use Rattle.text.specs.Lines.{in_range, Accepted};
+ghost use Rattle.std.specs.Prelude.{◌≡◌, ℕ, ◌^◌, ◌<◌, List, [], length, slice_index, ⊤};
+ghost use Rattle.std.specs.Iterator.{at_most};
+ghost use Rattle.text.specs.declared.record.Line.{Line};
+ghost use Rattle.text.specs.Lines.{Accepted};
 ghost use Rattle.text.specs.Post.{line_of};
 ghost use Rattle.text.specs.Rest.{rest};
-ghost use Rattle.text.specs.Walks.{Walk};
+ghost use Rattle.text.specs.Walks.{Walk, WalksOn};
 
 use crate::reader::Reader;
 use crate::reading::{in_range, next_entry};
 use crate::record::{Entry, Key, Line};
 
-// The line that an entry holds.
+// The line that an entry holds. No `TryFrom`: that all five numbers are small is known of an entry that was read, not of any in range.
 fn line_of(e: &Entry) -> Line
     requires { (j : ℕ) → slice_index e.now.numbers j < 2 ^ 32 }
     ensures { result ≡ line_of e.now.key e.now.numbers }
@@ -71,22 +73,28 @@ fn line_of(e: &Entry) -> Line
     }
 }
 
-/// A walk that is to begin.
-pub fn begin<'a>(text: &'a [u8]) -> Reader<'a>
+/// The lines of a text, of which none is read yet.
+pub fn lines<'a>(text: &'a [u8]) -> Reader<'a>
     ensures { (ls : List Line) → Accepted text.now ls → Walk ls result [] }
 {
     Reader::new(text)
 }
 
-/// The next line of the text.
-pub fn step(reader: &mut Reader) -> Option<Line>
-    ensures shorter { OnSome result (length (rest reader.new) < length (rest reader.old)) }
-    ensures ranged { IfSome result (λ l. in_range l ≡ true) }
-    ensures walk { (ls done : List Line) → Walk ls reader.old done → MatchOption result (done ≡ ls) (λ l. Walk ls reader.new (l ∷ done)) }
-{
-    let e = next_entry(reader)?;
-    if !in_range(&e) {
-        return None;
+/// The next line of the text, and its number, from 1.
+impl<'a> Iterator for Reader<'a> {
+    type Item = (usize, Line);
+
+    ghost can_next = { λ _. ⊤ };
+
+    ghost next_gives = { WalksOn };
+
+    ghost remaining = { λ r. at_most (length (rest r)) };
+
+    fn next(&mut self) -> Option<(usize, Line)> {
+        let e = next_entry(self)?;
+        if !in_range(&e) {
+            return None;
+        }
+        Some((self.lines(), line_of(&e)))
     }
-    Some(line_of(&e))
 }

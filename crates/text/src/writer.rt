@@ -1,4 +1,6 @@
 //! Decimal numbers and report lines, written into a buffer.
+//!
+//! Buffer and place are two parameters: a struct that holds the `&mut` owes a clause more, that it lends the same buffer still.
 ghost use Rattle.std.specs.Prelude.{◌≡◌, ◌+◌, ◌%◌, ◌≤◌, length};
 ghost use Rattle.text.specs.Lines.{numeral};
 ghost use Rattle.text.specs.Written.{Wrote, control_line};
@@ -8,13 +10,7 @@ pub(crate) fn numeral_len(n: u32) -> usize
     ensures value { result ≡ length (numeral n) }
     ensures few { result ≤ 10 }
 {
-    let mut len = 1;
-    let mut left = n / 10;
-    while left > 0 {
-        left /= 10;
-        len += 1;
-    }
-    len
+    n.max(1).ilog10() as usize + 1
 }
 
 fn last_digit(n: u32) -> u8
@@ -30,6 +26,7 @@ pub(crate) fn write_numeral(buffer: &mut [u8], at: usize, n: u32) -> usize
 {
     let end = at + numeral_len(n);
     let mut left = n;
+    // By places: after a loop over `iter_mut().rev()` the proof did not close, since it lacks what stands in the buffer.
     for i in (at..end).rev() {
         buffer[i] = last_digit(left);
         left /= 10;

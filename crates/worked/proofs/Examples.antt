@@ -1,18 +1,16 @@
 -- Every worked example holds.
-use Rattle.std.proofs.Common.{◌≡◌, ℕ, T, ◌≢◌, ◌↔◌, List, [], ◌∷◌, Some, sym, refl, subst, inl, inr, arith}
+use Rattle.std.proofs.Common.{◌≡◌, ℕ, T, ◌≢◌, ◌↔◌, List, [], ◌∷◌, Some, Ok, Err, sym, refl, subst, inl, inr, arith}
 use Rattle.std.specs.List.{AllByRecursion}
 use Rattle.sets.specs.Member.{bit}
 use Rattle.policy.specs.Order.{Order, ladder}
 use Rattle.policy.specs.Rule.{Rule}
-use Rattle.model.specs.declared.answer.Answer.{Answer}
-use Rattle.model.specs.declared.answer.Answer.TheVariants.{Accepted, Refused}
 use Rattle.model.specs.declared.answer.Refusal.{Refusal}
 use Rattle.model.specs.declared.answer.Refusal.TheVariants.{Range, LevelUnknown, NoSession, NumberUsed, Protected, OtherHoldings, AccessMissing}
 use Rattle.model.specs.declared.fact.Fact.TheVariants.{Control}
 use Rattle.model.specs.declared.fact.Mode.TheVariants.{Write}
 use Rattle.model.specs.declared.request.Request.{Request}
 use Rattle.model.specs.declared.request.Kind.TheVariants.{Gain, GiveUp}
-use Rattle.model.specs.Answers.{refusal_number}
+use Rattle.model.specs.Answers.{Answer, refusal_number}
 use Rattle.model.specs.Records.{State, Stands}
 use Rattle.model.specs.Form.{kind_of}
 use Rattle.model.specs.Needs.{needs, Met, Fails, Free, Elsewhere, Entitled, start, into}
@@ -59,7 +57,7 @@ met_give_up = tt & tt & tt & (tt, tt) & (tt, tt) & (tt, tt) & tt & tt
 fails_again : Fails (needs ladder rule ended give_up (Some GiveUp)) AccessMissing
 fails_again = tt ▸ tt ▸ tt ▸ (tt, tt) ▸ (tt, tt) ▸ (tt, tt) ▸ inl (λ a. a, refl)
 
-steps : Run ladder rule begun (gain ∷ give_up ∷ give_up ∷ []) (Accepted ∷ Accepted ∷ Refused AccessMissing ∷ []) ended
+steps : Run ladder rule begun (gain ∷ give_up ∷ give_up ∷ []) (Ok tt ∷ Ok tt ∷ Err AccessMissing ∷ []) ended
 unfolding kind_of
 steps =
     step (accepted refl met_gain settles_gained) (step (accepted refl met_give_up settles_ended) (step (refused fails_again) stop))
@@ -89,7 +87,7 @@ table =
     & turned_down (request 5 1 1 0 64 64 0 0) NumberUsed (tt ▸ tt ▸ tt ▸ (tt, tt) ▸ (tt, tt) ▸ inl (λ n. n.0, refl))
     & turned_down (request 5 1 1 0 63 64 0 0) Range (tt ▸ inl (λ r. r, refl))
     & turned_down (request 5 1 1 0 68 64 16 0) LevelUnknown (tt ▸ tt ▸ inl (λ k. k, refl))
-    & turned_down (request 5 1 1 0 68 64 15 0) AccessMissing (tt ▸ tt ▸ tt ▸ (tt, tt) ▸ (tt, tt) ▸ (tt, tt) ▸ (1, tt, tt, tt) ▸ inl (λ a. a, refl))
+    & turned_down (request 5 1 1 0 68 64 15 0) AccessMissing (tt ▸ tt ▸ tt ▸ (tt, tt) ▸ (tt, tt) ▸ (tt, tt) ▸ (1, tt, tt) ▸ inl (λ a. a, refl))
     & turned_down (request 8 2 1 0 67 66 0 0) OtherHoldings (tt ▸ tt ▸ tt ▸ (tt, tt) ▸ (tt, tt) ▸ (tt, tt) ▸ free ▸ tt ▸ inl (only_holder, refl))
     & turned_down (request 9 1 1 0 65 64 0 0) Protected (tt ▸ tt ▸ tt ▸ (tt, tt) ▸ (tt, tt) ▸ (tt, tt) ▸ inl (λ f. f.no_gate refl, refl))
     & tt

@@ -1,12 +1,12 @@
 -- The text of the worked pedal is accepted.
-use Rattle.std.proofs.Common.{◌≡◌, ℕ, zero, suc, ◌<◌, Bool, true, not, ◌&&◌, ◌||◌, T, ◌≢◌, List, [], ◌∷◌, refl, inr, ⊎_elim, arith, lit≤, T_not, below_more}
+use Rattle.std.proofs.Common.{◌≡◌, ℕ, zero, suc, ◌<◌, Bool, true, not, ◌&&◌, ◌||◌, T, ◌≢◌, List, [], ◌∷◌, is_some, refl, inr, ⊎_elim, arith, lit≤, T_not, below_more}
 use Rattle.std.proofs.lemmas.Bool.{and_parts}
 use Rattle.sets.specs.Member.{bit}
 use Rattle.policy.specs.Order.{ladder}
 use Rattle.text.specs.declared.record.Line.{Line}
 use Rattle.text.specs.declared.record.Line.TheVariants.{Root, Gate, Account, Role, Container, Object, Session, Right, Held, Access}
 use Rattle.text.specs.Lines.{text, numeral, follows, in_range, Accepted, Sound}
-use Rattle.model.specs.Records.{State}
+use Rattle.model.specs.Records.{State, role_of}
 use Rattle.model.specs.Needs.{start, into}
 use Rattle.model.proofs.Tests.{parts, either}
 use Rattle.start.specs.Setup.{listed}
@@ -88,24 +88,24 @@ all = listed lines
 pub clean : Clean ladder rule all lines
 unfolding bit
 clean =
-    ((tt, tt) & (λ s. tt) & inr (into {c = 64} start ((0, tt, tt), tt) tt) & tt)
-    & ((tt, tt, tt) & tt & tt & tt)
-    & ((tt, tt, tt) & tt & tt & tt)
-    & ((tt, tt, tt) & tt & tt & tt)
-    & ((tt, tt) & (λ s. tt) & tt)
-    & ((tt, tt) & (λ s. absurd s) & tt)
-    & ((tt, tt) & (λ s. absurd s) & tt)
-    & ((tt, tt) & (λ s. absurd s) & tt)
-    & ((tt, tt, (λ n. tt), none) & tt & (tt, none) & tt)
-    & ((tt, tt, (λ n. tt), none) & tt & (tt, none) & tt)
+    ((refl, refl) & (λ s. tt) & inr (into {c = 64} start ((0, tt, tt), tt) tt) & tt)
+    & ((refl, refl, tt) & tt & tt & tt)
+    & ((refl, refl, tt) & tt & tt & tt)
+    & ((refl, refl, tt) & tt & tt & tt)
+    & ((refl, refl) & (λ s. tt) & tt)
+    & ((refl, refl) & (λ s. absurd s) & tt)
+    & ((refl, refl) & (λ s. absurd s) & tt)
+    & ((refl, refl) & (λ s. absurd s) & tt)
+    & ((tt, refl, (λ n. tt), none) & tt & (tt, none) & tt)
+    & ((tt, refl, (λ n. tt), none) & tt & (tt, none) & tt)
     & ((tt, tt) & tt & tt & tt)
     & ((tt, tt) & tt & tt & tt)
     & ((tt, tt, lit≤ tt) & tt & tt & tt)
     & ((tt, each 0 (ordinary all) tt, none) & tt & tt)
     & ((tt, each 5 (ordinary all) tt, none) & tt & tt)
     & ((tt, each 0 (ordinary all) tt, none) & tt & tt)
-    & ((tt, each 4 (λ r. (all.cards.roles r).defined) tt, none) & tt & (each 4 (λ r. ladder.below (all.cards.roles r).level 3) tt, none) & tt)
-    & ((tt, each 3 (λ r. (all.cards.roles r).defined) tt, none) & tt & (each 3 (λ r. ladder.below (all.cards.roles r).level 15) tt, none) & tt)
+    & ((tt, each 4 (λ r. is_some (all.cards.roles r)) tt, none) & tt & (each 4 (λ r. ladder.below (role_of all.cards r).level 3) tt, none) & tt)
+    & ((tt, each 3 (λ r. is_some (all.cards.roles r)) tt, none) & tt & (each 3 (λ r. ladder.below (role_of all.cards r).level 15) tt, none) & tt)
     & (tt & refl & tt)
     & (tt & tt)
     & tt

@@ -4,10 +4,9 @@ use Prim.Native.String.{String}
 use Rattle.std.specs.List.{AllByRecursion}
 use Rattle.policy.specs.Order.{ladder, badges}
 use Rattle.policy.specs.Rule.{Rule, separation}
-use Rattle.model.specs.declared.answer.Answer.{Answer}
 use Rattle.model.specs.declared.fact.Fact.TheVariants.{Control}
 use Rattle.model.specs.declared.request.Request.{Request}
-use Rattle.model.specs.Answers.{answer_number}
+use Rattle.model.specs.Answers.{Answer, answer_number}
 use Rattle.model.specs.Records.{State, Stands}
 use Rattle.model.specs.Runs.{Run}
 use Rattle.start.specs.Starts.{Begins}

@@ -4,8 +4,6 @@
 ghost use Rattle.worked.specs.Worked.{Worked};
 
 /// The rules answer every worked example as it is written.
-pub fn worked_examples_stand() -> u8
+pub fn worked_examples_stand()
     ensures { Worked }
-{
-    0
-}
+{}

@@ -4,7 +4,7 @@ ghost use Rattle.text.specs.Cut.{Lacks, CutAt};
 ghost use Rattle.text.specs.Rest.{rest};
 
 use super::Reader;
-use crate::part::{Part, cut};
+use crate::part::cut;
 
 impl<'a> Reader<'a> {
     /// A reading that is to begin.
@@ -19,17 +19,13 @@ impl<'a> Reader<'a> {
     }
 
     /// The next line, without the byte 10 that ends it.
-    pub(crate) fn next_line(&mut self) -> Option<Part<'a>>
-        ensures number { IfSome result (λ p. p.line ≡ self.new.lines) }
-        ensures line { MatchOption result (Lacks 10 (rest self.old)) (λ p. CutAt 10 (rest self.old) p.bytes.now (rest self.new) × (self.new.lines ≡ self.old.lines + 1)) }
+    pub(crate) fn next_line(&mut self) -> Option<&'a [u8]>
+        ensures { MatchOption result (Lacks 10 (rest self.old)) (λ p. CutAt 10 (rest self.old) p.now (rest self.new) × (self.new.lines ≡ self.old.lines + 1)) }
     {
-        let (bytes, left) = cut(self.left, b'\n')?;
+        let (line, left) = cut(self.left, b'\n')?;
         self.left = left;
         self.lines += 1;
-        Some(Part {
-            bytes,
-            line: self.lines,
-        })
+        Some(line)
     }
 
     /// Is nothing left?

@@ -1,10 +1,10 @@
 use Rattle.std.proofs.Common.{codes, subst}
-use Rattle.bench.specs.Commands.{Entry}
-use Rattle.bench.proofs.Lines.{is_listed}
+use Rattle.text.specs.Requests.{Keyed}
+use Rattle.text.proofs.Lists.{is_listed}
 use Rattle.bench.proofs.command.question_of.Goals as goal
 
 pub returns-in_err-q : goal.returns-in_err-q
 returns-in_err-q c = rw c.from_residual.ensures (λ q said. c.in_err-q.ensures _ said)
 
 pub returns : goal.returns
-returns c = let h = c.in_ok-q.ensures in subst (Entry (codes "question=") 4 c.args.line.now) (is_listed 4 _ h.long) h
+returns c = let h = c.in_ok-q.ensures in subst (Keyed (codes "question=") 4 c.args.line.now) (is_listed 4 _ h.long) h

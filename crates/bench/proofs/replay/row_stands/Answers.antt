@@ -1,8 +1,6 @@
-use Rattle.std.proofs.Common.{T, subst, arith, below_more}
+use Rattle.block.specs.Reading.{state}
+use Rattle.bench.proofs.Standing.{row}
 use Rattle.bench.proofs.replay.row_stands.Goals as goal
 
-pub loop-j-preserved : goal.loop-j-preserved
-loop-j-preserved c = below_more _ _ c.loop-j.invariant (subst T c.if-not-pair_stands.ensures tt)
-
-pub returns : goal.returns
-returns c = record { item = λ t. subst T c.item_stands.ensures t; pairs = λ t j l. c.loop-j.invariant j (omega arith) }
+pub returns-then-item_stands : goal.returns-then-item_stands
+returns-then-item_stands c = row (state c.args.a.now) (state c.args.b.now) c.args.i c.pairs_stand.result c.if-item_stands.ensures c.pairs_stand.ensures

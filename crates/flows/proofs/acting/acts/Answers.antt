@@ -1,15 +1,18 @@
-use Rattle.sets.proofs.Steps.{both, weaken}
+use Rattle.std.proofs.Common.{ℕ, sym, ◌∙◌}
+use Rattle.sets.proofs.Steps.{both, weaken, clash}
+use Rattle.model.specs.declared.fact.Fact.TheVariants.{Control}
 use Rattle.model.specs.Flows.{Unguarded}
 use Rattle.block.specs.Reading.{cards_of}
 use Rattle.flows.specs.Spread.{Has}
 use Rattle.flows.specs.Rules.{Acts}
-use Rattle.flows.proofs.Places.{granted, denied}
+use Rattle.flows.proofs.Places.{granted, denied, of_control}
 use Rattle.flows.proofs.Steps.{rules, stays}
 use Rattle.flows.proofs.acting.acts.Goals as goal
 
-pub returns-then-not-controls_any : goal.returns-then-not-controls_any
-returns-then-not-controls_any c =
-    let none = c.if-not-controls_any.ensures c.args.tables.now in
+pub returns-then-is_empty : goal.returns-then-is_empty
+returns-then-is_empty c =
+    let none : (t : ℕ) → Has c.args.tables.now c.args.relations.now (Control c.args.s t) → ⊥ =
+    λ t h. clash _ (sym (c.if-is_empty.ensures t)) (c.row.ensures t ∙ (of_control c.args.tables.now c.args.relations.now c.args.s t h).2) in
     stays c.args.tables.now c.args.relations.now (λ P. Unguarded (cards_of c.args.tables.now) c.args.s → Acts c.args.s P)
     (λ _. record {
       outward = λ t _ _ h _. absurd (none t h);

@@ -8,7 +8,7 @@ use Rattle.flows.proofs.rights.passing.Goals.{then-passes, else-passes}
 
 pub loop-c-preserved : goal.loop-c-preserved
 loop-c-preserved g c =
-    let P : ℕ → Type 0 = Passes (g.O.LevelOrder.meaning c.args.order.now) (state c.args.block.now) c.args.x in
+    let P : ℕ → Type 0 = Passes (g.O.LevelOrder.meaning c.args.order.now) (state c.args.records.now) c.args.x in
     elim c.if-passes.branch [
       | then-passes w ↦
           subst (Chosen P (c.loop-c.c + 1)) (sym w.all-is)

@@ -1,8 +1,9 @@
-use Rattle.model.specs.declared.fact.Fact.TheVariants.{Control}
+use Rattle.std.proofs.Common.{◌<◌, arith}
 use Rattle.model.specs.Flows.{before, itself}
 use Rattle.flows.specs.Rules.{Itself}
+use Rattle.flows.proofs.Growth.{gives_control}
 use Rattle.flows.proofs.Places.{granted, denied}
-use Rattle.flows.proofs.Steps.{stays, adds}
+use Rattle.flows.proofs.Steps.{stays}
 use Rattle.flows.proofs.rules.itself.Goals as goal
 
 pub returns-then-not-lives : goal.returns-then-not-lives
@@ -11,5 +12,6 @@ returns-then-not-lives c =
 
 pub returns : goal.returns
 returns c =
-    adds c.args.tables.now c.args.relations.now c.add_control.new.relations c.add_control.result (Control c.args.s c.args.s) (Itself c.args.s)
-    (c.add_control.ensures c.args.tables.now) (itself c.requires (before (granted _ (c.if-not-lives.ensures c.args.relations.now)))) (λ h _. h)
+    let l : c.args.s < 64 = omega (arith, c.requires.1) in
+    gives_control c.args.tables.now c.args.relations.now c.add.new.self c.args.s c.args.s c.add.result (Itself c.args.s) l l
+    c.add.ensures.members c.add.ensures.grew (itself c.requires (before (granted _ (c.if-not-lives.ensures c.args.relations.now)))) (λ h _. h)

@@ -15,7 +15,7 @@ loop-entry-preserved g c =
     let lt : c.loop-entry.entry-index < length c.loop-entry.records = omega arith in
     let done = c.answer_in_place.new.entry in
     let same = c.answer_in_place.ensures.stays in
-    (requests_set c.loop-entry.records c.loop-entry.entry-index _ done same ∙ c.loop-entry.invariant.0, one_more o h _ _ _ c.loop-entry.records c.loop-entry.entry-index done lt c.loop-entry.invariant.1 (subst (λ (q : Request). Answered o h c.loop-entry.block q done.answer c.answer_in_place.new.block) (sym same) c.answer_in_place.ensures.answered))
+    (requests_set c.loop-entry.records c.loop-entry.entry-index _ done same ∙ c.loop-entry.invariant.0, one_more o h _ _ _ c.loop-entry.records c.loop-entry.entry-index done lt c.loop-entry.invariant.1 (subst (λ (q : Request). Answered o h c.loop-entry.held q done.answer c.answer_in_place.new.held) (sym same) c.answer_in_place.ensures.answered))
 
 pub returns : goal.returns
 returns g c =

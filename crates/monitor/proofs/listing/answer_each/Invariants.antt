@@ -4,4 +4,4 @@ use Rattle.monitor.proofs.listing.answer_each.Given as goal
 
 abbrev pub invariant-loop-entry : goal.invariant-loop-entry
 invariant-loop-entry g l =
-    (requests l.records ≡ requests l.initial.records) × Turns (g.O.LevelOrder.meaning l.order) (g.R.HouseRule.answers l.rule) l.initial.block (requests (take l.entry-index l.records)) (replies (take l.entry-index l.records)) l.block
+    (requests l.records ≡ requests l.initial.records) × Turns (g.O.LevelOrder.meaning l.order) (g.R.HouseRule.answers l.rule) l.initial.held (requests (take l.entry-index l.records)) (replies (take l.entry-index l.records)) l.held

@@ -5,4 +5,4 @@ use Rattle.reports.proofs.Lines.{below}
 use Rattle.reports.proofs.measuring.report_len.Given as goal
 
 abbrev pub invariant-loop-s : goal.invariant-loop-s
-invariant-loop-s l = (l.len ≡ length (below (row (state l.block)) l.s)) × (l.len ≤ 2000 * l.s)
+invariant-loop-s l = (l.len ≡ length (below (row (state l.records)) l.s)) × (l.len ≤ 2000 * l.s)

@@ -5,8 +5,8 @@ use Rattle.reports.proofs.Lines.{length_none, length_more}
 use Rattle.reports.proofs.measuring.row_len.Goals as goal
 
 pub loop-t-init : goal.loop-t-init
-loop-t-init c = (sym (length_none (pair (state c.args.block.now) c.args.s)), omega arith)
+loop-t-init c = (sym (length_none (pair (state c.args.records.now) c.args.s)), omega arith)
 
 pub loop-t-preserved : goal.loop-t-preserved
 loop-t-preserved c =
-    (omega (arith, length_more (pair (state c.args.block.now) c.args.s) c.loop-t.t c.loop-t.auto.t), omega arith)
+    (omega (arith, length_more (pair (state c.args.records.now) c.args.s) c.loop-t.t c.loop-t.auto.t), omega arith)

@@ -7,14 +7,14 @@ use Rattle.reports.proofs.writing.write_pair.Goals as goal
 
 pub write_control_line-requires : goal.write_control_line-requires
 write_control_line-requires c =
-    omega (arith, c.requires, ap length (listed (state c.args.block.now) c.args.s c.args.t (sym c.if-has_pair.ensures)))
+    omega (arith, c.requires, ap length (listed (state c.args.records.now) c.args.s c.args.t (sym c.if-has_pair.ensures)))
 
 pub returns-then-has_pair : goal.returns-then-has_pair
 returns-then-has_pair c =
     subst (λ (l : List ℕ). Wrote c.args.buffer.now c.args.at c.write_control_line.new.buffer c.write_control_line.result l)
-    (sym (listed (state c.args.block.now) c.args.s c.args.t (sym c.if-has_pair.ensures))) c.write_control_line.ensures
+    (sym (listed (state c.args.records.now) c.args.s c.args.t (sym c.if-has_pair.ensures))) c.write_control_line.ensures
 
 pub returns-else-has_pair : goal.returns-else-has_pair
 returns-else-has_pair c =
     subst (λ (l : List ℕ). Wrote c.args.buffer.now c.args.at c.args.buffer.now c.args.at l)
-    (sym (unlisted (state c.args.block.now) c.args.s c.args.t (sym c.if-has_pair.ensures))) (wrote_none c.args.buffer.now c.args.at)
+    (sym (unlisted (state c.args.records.now) c.args.s c.args.t (sym c.if-has_pair.ensures))) (wrote_none c.args.buffer.now c.args.at)

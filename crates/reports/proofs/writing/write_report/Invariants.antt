@@ -5,4 +5,4 @@ use Rattle.reports.proofs.Lines.{below}
 use Rattle.reports.proofs.writing.write_report.Given as goal
 
 abbrev pub invariant-loop-s : goal.invariant-loop-s
-invariant-loop-s l = Wrote l.initial.buffer 0 l.buffer l.end (below (row (state l.block)) l.s)
+invariant-loop-s l = Wrote l.initial.buffer 0 l.buffer l.end (below (row (state l.records)) l.s)

@@ -5,4 +5,4 @@ use Rattle.reports.proofs.Lines.{below}
 use Rattle.reports.proofs.writing.write_row.Given as goal
 
 abbrev pub invariant-loop-t : goal.invariant-loop-t
-invariant-loop-t l = Wrote l.initial.buffer l.at l.buffer l.end (below (pair (state l.block) l.s) l.t)
+invariant-loop-t l = Wrote l.initial.buffer l.at l.buffer l.end (below (pair (state l.records) l.s) l.t)

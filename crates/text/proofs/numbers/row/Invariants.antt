@@ -1,5 +1,6 @@
 use Rattle.text.proofs.Rows.{Sofar}
+use Rattle.std.proofs.Common.{◌-◌}
 use Rattle.text.proofs.numbers.row.Given as goal
 
-abbrev pub invariant-loop-i : goal.invariant-loop-i
-invariant-loop-i g l = Sofar l.initial.list.bytes.now l.list.bytes.now l.count g.row.N l.i l.out
+abbrev pub invariant-loop-slot : goal.invariant-loop-slot
+invariant-loop-slot g l = Sofar l.list l.left l.count (l.count - 1) l.slot-index l.slot-items

@@ -1,8 +1,11 @@
-use Rattle.text.proofs.Cuts.{lacks_read, slices_cut}
+use Rattle.std.proofs.Common.{◌≡◌, ℕ, ◌<◌, length, get_or, rules}
+use Rattle.text.proofs.Cuts.{slices_cut}
 use Rattle.text.proofs.part.cut.Goals as goal
 
-pub returns-then-n-s : goal.returns-then-n-s
-returns-then-n-s c = lacks_read _ _ c.find-n.result c.if-n-s.true c.find-n.ensures.before
-
 pub returns : goal.returns
-returns c = slices_cut _ _ _ c.if-n-s.false c.find-n.ensures.before (c.find-n.ensures.found c.if-n-s.false)
+returns c =
+    let i = c.in_ok-n.n in
+    let low : i < length c.args.s.now = search rules in
+    let found : get_or c.args.s.now i 0 ≡ c.args.b = search rules in
+    let before : (k : ℕ) → k < i → get_or c.args.s.now k 0 ≡ c.args.b → ⊥ = search rules in
+    slices_cut _ _ _ low before found

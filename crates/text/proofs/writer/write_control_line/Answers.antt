@@ -1,19 +1,6 @@
 use Rattle.std.proofs.Common.{append_assoc, arith}
-use Rattle.text.proofs.Reports.{control_length}
 use Rattle.text.proofs.Writings.{wrote_on}
 use Rattle.text.proofs.writer.write_control_line.Goals as goal
-
-pub write_numeral-comma-requires : goal.write_numeral-comma-requires
-write_numeral-comma-requires c = omega (arith, control_length c.args.s c.args.t)
-
-pub write_bytes-other-requires : goal.write_bytes-other-requires
-write_bytes-other-requires c = omega (arith, control_length c.args.s c.args.t)
-
-pub write_numeral-end-requires : goal.write_numeral-end-requires
-write_numeral-end-requires c = omega (arith, control_length c.args.s c.args.t)
-
-pub write_bytes-requires : goal.write_bytes-requires
-write_bytes-requires c = omega (arith, control_length c.args.s c.args.t)
 
 pub returns : goal.returns
 returns c =

@@ -1,9 +1,6 @@
 use Rattle.std.proofs.Common.{◌+◌, ap, arith}
-use Rattle.text.proofs.Writings.{start, more, all}
+use Rattle.text.proofs.Writings.{more, all}
 use Rattle.text.proofs.writer.write_numeral.Goals as goal
-
-pub loop-i-init : goal.loop-i-init
-loop-i-init c = start _ _ _ _ (omega arith)
 
 pub loop-i-preserved : goal.loop-i-preserved
 loop-i-preserved c = more c.loop-i.invariant c.loop-i-test.true (omega (arith, c.loop-i.auto.i, c.numeral_len.ensures.value, c.requires)) c.last_digit.ensures

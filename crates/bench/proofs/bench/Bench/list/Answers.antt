@@ -1,4 +1,4 @@
-use Rattle.std.proofs.Common.{vec_items}
+use Rattle.std.proofs.Common.{vec_items, sym, ◌∙◌}
 use Rattle.bench.proofs.Keeping.{accepted}
 use Rattle.bench.proofs.bench.Bench.list.Goals as goal
 
@@ -8,5 +8,5 @@ returns-in_ok-keep_each g c =
     let outcome = c.list-answer.ensures.outcome in
     record {
       outcome = rw each.block outcome;
-      given = accepted {gs' = vec_items c.keep_each.new.self.given} (vec_items c.args.self.now.given) outcome c.in-Accepted.is each.given;
+      given = accepted {gs' = vec_items c.keep_each.new.self.given} (vec_items c.args.self.now.given) outcome (sym c.is_ok.ensures.value ∙ c.if-is_ok.true) each.given;
     }

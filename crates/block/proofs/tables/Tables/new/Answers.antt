@@ -1,22 +1,25 @@
-use Rattle.block.specs.Reading.{no_account, no_role, no_item, no_session}
-use Rattle.block.proofs.Empty.{none_at, rows64_clear, rows256_clear, grid_clear}
+use Rattle.std.proofs.Common.{◌≡◌, None, refl, rules}
+use Rattle.block.specs.Reading.{no_session}
+use Rattle.block.proofs.Empty.{none_at, modes_clear}
 use Rattle.block.proofs.tables.Tables.new.Goals as goal
 
-pub returns : goal.returns
-returns c =
-    record {
-      cards = λ n. record {
-        gate = 0;
-        accounts = λ i. none_at 16 no_account i n;
-        roles = λ i. none_at 32 no_role i n;
-        items = λ i. none_at 256 no_item i n;
-        account = λ s. (none_at 64 no_session s n).account;
-        life = λ s. (none_at 64 no_session s n).life;
-      };
-      sessions = none_at 64 no_session;
-      live = c.new.ensures;
-      held = rows64_clear c.new-2.result c.new-2.ensures 64;
-      rights = grid_clear c.new-3.result c.new-3.ensures 4 256;
-      accesses = grid_clear c.new-4.result c.new-4.ensures 4 256;
-      contents = rows256_clear c.new-5.result c.new-5.ensures 256;
+pub returns-clause-cards : goal.returns-clause-cards
+returns-clause-cards c =
+    let blank : c.default.result ≡ no_session = search rules in
+    λ n. record {
+      gate = 0;
+      accounts = λ i. none_at 16 None None refl i n;
+      roles = λ i. none_at 32 None None refl i n;
+      items = λ i. none_at 256 None None refl i n;
+      account = λ s. (none_at 64 no_session c.default.result blank s n).account;
+      life = λ s. (none_at 64 no_session c.default.result blank s n).life;
     }
+
+pub returns-clause-sessions : goal.returns-clause-sessions
+returns-clause-sessions c = none_at 64 no_session c.default.result (search rules)
+
+pub returns-clause-rights : goal.returns-clause-rights
+returns-clause-rights c = modes_clear c.new-3.result c.new-3.ensures 4
+
+pub returns-clause-accesses : goal.returns-clause-accesses
+returns-clause-accesses c = modes_clear c.new-4.result c.new-4.ensures 4

@@ -1,7 +1,0 @@
-use Rattle.std.proofs.Common.{◌≡◌, ℕ, not, ◌&&◌, eqb, ltb}
-use Rattle.block.specs.Reading.{row256}
-use Rattle.block.proofs.forgetting.clear_column256.Given as goal
-
--- the rows below the index have lost the number
-abbrev pub invariant-loop-row : goal.invariant-loop-row
-invariant-loop-row l = (x z : ℕ) → row256 l.rows x z ≡ (not (ltb x l.row-index && eqb z l.k) && row256 l.initial.rows x z)
