@@ -1,4 +1,4 @@
-//! Each call of a script, made on the bench and printed.
+//! Each call of a script, made on the bench and printed. Order and rule are parameters of each, as they are of the monitor's calls.
 ghost use Rattle.std.specs.Prelude.{◌≤◌};
 ghost use Rattle.bench.specs.Scripts.{ahead};
 

@@ -10,66 +10,76 @@ use text::request::request_numbers;
 /// Room for the longest report: 63 times 62 lines of at most 14 bytes.
 const LONGEST_REPORT: usize = 54684;
 
-/// The answer to one line of requests; one of another form is refused as a malformed line of a start text is.
-fn answer_line(block: &mut Block, rule: &Separation<'_>, line: &[u8]) -> Result<(), Refusal> {
-    let numbers = request_numbers(line).ok_or(Refusal::LineForm)?;
-    request(block, &Ladder, rule, &Request::from(numbers))
-}
-
-/// Answers each line of requests.
-fn answer_lines(
+/// A block under the pedal's rule, and what was printed so far.
+#[derive(Drop)]
+struct Console<'a> {
     heap: Global,
-    block: &mut Block,
-    rule: &Separation<'_>,
-    lines: &[u8],
-    out: &mut Vec<u8>,
-) -> Result<(), AllocError> {
-    let mut left = lines;
-    while let Some((line, rest)) = first_line(left) {
-        let answer = answer_number(answer_line(block, rule, line));
-        let printed = format!(in heap; "answer={answer}\n")?;
-        out.extend_from_slice(printed.as_bytes())?;
-        left = rest;
-    }
-    Ok(())
+    block: Block,
+    rule: Separation<'a>,
+    out: Vec<u8>,
 }
 
-/// Tells who controls whom.
-fn tell_control(heap: Global, block: &Block, out: &mut Vec<u8>) -> Result<(), AllocError> {
-    let mut buffer = vec![in heap; 0; LONGEST_REPORT]?;
-    if let Ok(length) = report(block, buffer.as_mut_slice()) {
-        if length <= buffer.len() {
-            out.extend_from_slice(&buffer.as_slice()[0..length])?;
+impl Console<'_> {
+    /// The answer to one line of requests; one of another form is refused as a malformed line of a start text is.
+    fn answer(&mut self, line: &[u8]) -> Result<(), Refusal> {
+        let numbers = request_numbers(line).ok_or(Refusal::LineForm)?;
+        request(
+            &mut self.block,
+            &Ladder,
+            &self.rule,
+            &Request::from(numbers),
+        )
+    }
+
+    /// Answers each line of requests.
+    fn answer_lines(&mut self, lines: &[u8]) -> Result<(), AllocError> {
+        let mut left = lines;
+        while let Some((line, rest)) = first_line(left) {
+            let answer = answer_number(self.answer(line));
+            let printed = format!(in self.heap; "answer={answer}\n")?;
+            self.out.extend_from_slice(printed.as_bytes())?;
+            left = rest;
         }
+        Ok(())
     }
-    Ok(())
-}
 
-fn serve(
-    heap: Global,
-    block: &mut Block,
-    rule: &Separation<'_>,
-    input: &[u8],
-    out: &mut Vec<u8>,
-) -> Result<(), AllocError> {
-    let (text, requests) = split_at_empty_line(input).unwrap_or((input, &[]));
-    let answer = start(block, &Ladder, rule, text);
-    if answer.is_err() {
-        let (number, line) = number_and_line(answer);
-        let printed = format!(in heap; "start={number},{line}\n")?;
-        return out.extend_from_slice(printed.as_bytes());
+    /// Tells who controls whom.
+    fn tell_control(&mut self) -> Result<(), AllocError> {
+        let mut buffer = vec![in self.heap; 0; LONGEST_REPORT]?;
+        if let Ok(length) = report(&self.block, buffer.as_mut_slice()) {
+            if length <= buffer.len() {
+                self.out.extend_from_slice(&buffer.as_slice()[0..length])?;
+            }
+        }
+        Ok(())
     }
-    answer_lines(heap, block, rule, requests, out)?;
-    tell_control(heap, block, out)
+
+    /// Starts from the text before the first empty line, and answers the lines behind it.
+    fn serve(&mut self, input: &[u8]) -> Result<(), AllocError> {
+        let (text, requests) = split_at_empty_line(input).unwrap_or((input, &[]));
+        let answer = start(&mut self.block, &Ladder, &self.rule, text);
+        if answer.is_err() {
+            let (number, line) = number_and_line(answer);
+            let printed = format!(in self.heap; "start={number},{line}\n")?;
+            return self.out.extend_from_slice(printed.as_bytes());
+        }
+        self.answer_lines(requests)?;
+        self.tell_control()
+    }
 }
 
 /// What the program prints for the input.
 pub fn run(heap: Global, input: &[u8]) -> Result<Vec<u8>, AllocError> {
-    let mut out = Vec::new(heap);
     let pairs: [Pair; 0] = [];
-    if let Some(rule) = Separation::new(&pairs) {
-        let mut block = Block::new();
-        serve(heap, &mut block, &rule, input, &mut out)?;
-    }
-    Ok(out)
+    let Some(rule) = Separation::new(&pairs) else {
+        return Ok(Vec::new(heap));
+    };
+    let mut console = Console {
+        heap,
+        block: Block::new(),
+        rule,
+        out: Vec::new(heap),
+    };
+    console.serve(input)?;
+    Ok(console.out)
 }

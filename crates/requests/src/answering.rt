@@ -1,4 +1,4 @@
-//! The answer to a request, and the block after it.
+//! The answer to a request, and the records after it.
 ghost use Rattle.std.specs.Prelude.{◌≡◌};
 ghost use Rattle.block.specs.Reading.{state};
 ghost use Rattle.model.specs.Flows.{Settles};
@@ -18,7 +18,7 @@ fn follow(records: &mut Records)
     settle(&mut records.relations, &records.tables);
 }
 
-/// Answers a request on a started block: refused by the first need that fails, with nothing written, or else accepted.
+/// Answers a request on the records of a started block: refused by the first need that fails, with nothing written, or else accepted.
 pub fn answer<O: LevelOrder, R: HouseRule>(
     records: &mut Records,
     order: &O,

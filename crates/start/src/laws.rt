@@ -8,7 +8,7 @@ pub fn start_is_sound<O: LevelOrder, R: HouseRule>(o: &O, r: &R)
     ensures { SoundStart (O.meaning o.now) (R.answers r.now) }
 {}
 
-/// A text leaves one answer at a records, and one state after it.
+/// A text leaves one answer at a block, and one state after it.
 pub fn one_start<O: LevelOrder, R: HouseRule>(o: &O, r: &R)
     ensures { OneStart (O.meaning o.now) (R.answers r.now) }
 {}

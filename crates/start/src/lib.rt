@@ -1,4 +1,4 @@
-//! The second reading of a start text, and the block that it fills.
+//! The second reading of a start text, and the records that it fills.
 #![tactic(auto)]
 
 mod define;

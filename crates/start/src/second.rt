@@ -14,7 +14,7 @@ use policy::{HouseRule, LevelOrder};
 use text::record::Line;
 use text::walk::lines;
 
-/// Fills an empty block with what the lines of an accepted text define.
+/// Fills empty records with what the lines of an accepted text define.
 pub(crate) fn fill(text: &[u8], all: &mut Records)
     ensures { (ls : List Line) → Accepted text.now ls → state all.old ≡ empty → state all.new ≡ listed ls }
 {

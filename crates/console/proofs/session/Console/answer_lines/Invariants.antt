@@ -1,5 +1,5 @@
 use Rattle.std.proofs.Common.{length}
-use Rattle.console.proofs.session.answer_lines.Given as goal
+use Rattle.console.proofs.session.Console.answer_lines.Given as goal
 
 abbrev pub decreases-loop-line : goal.decreases-loop-line
 decreases-loop-line l = length l.left
