@@ -20,13 +20,11 @@ fn read_record(script: &mut Script<'_>) -> Result<Record, Stop>
     ensures { ahead script.new ≤ ahead script.old }
 {
     let line = script.expect_line()?;
-    match request_of(line) {
-        Some(request) => Ok(Record {
-            request,
-            answer: Ok(()),
-        }),
-        None => Err(script.fault()),
-    }
+    let request = request_of(line).ok_or(script.fault())?;
+    Ok(Record {
+        request,
+        answer: Ok(()),
+    })
 }
 
 /// The records of a list, whose requests are the next lines.
@@ -131,9 +129,7 @@ pub(crate) fn run<'a, O: LevelOrder, R: HouseRule>(
 ) -> Result<(), Stop> {
     let mut bench = Bench::new(rt.alloc());
     while let Some(line) = script.next_line() {
-        let Some(command) = Command::of(line) else {
-            return Err(script.fault());
-        };
+        let command = Command::of(line).ok_or(script.fault())?;
         call(rt, &mut bench, order, rule, command, script)?;
     }
     Ok(())

@@ -35,8 +35,7 @@ pub(crate) fn request_of(line: &[u8]) -> Option<Request>
 fn question_of(line: &[u8]) -> Option<Question>
     ensures { MatchOption result ((q : Topical) → Says line.now (Command.Question q) → ⊥) (λ q. Says line.now (Command.Question q)) }
 {
-    let [q, a, b, m] = numbers_of::<4>(line, b"question=")?;
-    Some(Question { q, a, b, m })
+    Some(Question::from(numbers_of::<4>(line, b"question=")?))
 }
 
 fn count_of(line: &[u8], key: &[u8]) -> Option<u32>

@@ -27,16 +27,15 @@ fn run_under_rule<O: LevelOrder>(
     script: &mut Script<'_>,
 ) -> Result<(), Stop> {
     let line = script.expect_line()?;
-    match Terms::of(rt.alloc(), line)? {
-        Some(Terms::Separation(pairs)) => match Separation::new(pairs.as_slice()) {
-            Some(rule) => run(rt, order, &rule, script),
-            None => Err(script.fault()),
-        },
-        Some(Terms::Quota(group, most)) => match Quota::new(group, most) {
-            Some(rule) => run(rt, order, &rule, script),
-            None => Err(script.fault()),
-        },
-        None => Err(script.fault()),
+    match Terms::of(rt.alloc(), line)?.ok_or(script.fault())? {
+        Terms::Separation(pairs) => {
+            let rule = Separation::new(pairs.as_slice()).ok_or(script.fault())?;
+            run(rt, order, &rule, script)
+        }
+        Terms::Quota(group, most) => {
+            let rule = Quota::new(group, most).ok_or(script.fault())?;
+            run(rt, order, &rule, script)
+        }
     }
 }
 

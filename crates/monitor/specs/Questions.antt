@@ -1,5 +1,5 @@
 -- What a question asks, and when the answer is yes.
-use Rattle.std.specs.Prelude.{◌≡◌, ℕ, ◌-◌, Bool, cond, ◌&&◌, T, List, [], ◌∷◌, Some, None, Ok, Err, Option, Result, nat_le, slice_index_or}
+use Rattle.std.specs.Prelude.{◌≡◌, ℕ, ◌-◌, Bool, cond, ◌&&◌, T, List, [], ◌∷◌, Some, None, Ok, Err, Option, Result, nat_le, slice_index_or, slice_index}
 use Rattle.policy.specs.Order.{Order}
 use Rattle.model.specs.declared.answer.Refusal.{Refusal}
 use Rattle.model.specs.declared.answer.Refusal.TheVariants as refusal
@@ -18,6 +18,10 @@ use Rattle.monitor.specs.declared.topic.Topic.{Topic}
 use Rattle.monitor.specs.declared.topic.Topic.TheVariants as topic
 
 -- ## Its form
+
+-- the question of four numbers, in their order
+abbrev pub question_of : List ℕ → Question
+question_of ns = record { q = slice_index ns 0; a = slice_index ns 1; b = slice_index ns 2; m = slice_index ns 3 }
 
 -- the six questions, from 1 on
 abbrev pub topics : List Topic

@@ -8,7 +8,7 @@ use crate::topic::{Question, Spans, Topic};
 use block::{Block, Records};
 use flows::reaches;
 use model::span::{ITEM, ROLE, SESSION};
-use model::{Fact, Mode, Refusal, Span};
+use model::{Fact, Mode, Refusal, Span, need};
 use policy::LevelOrder;
 use requests::{admits, idle, suits};
 
@@ -74,11 +74,7 @@ pub(crate) fn ask<O: LevelOrder>(block: &Block, order: &O, q: &Question) -> Resu
     };
     let topic = Topic::try_from(q.q)?;
     let row = row(topic);
-    if !idle(row.m, q.m) {
-        return Err(Refusal::Form);
-    }
-    if !ranged(&row, q) {
-        return Err(Refusal::Range);
-    }
+    need(idle(row.m, q.m), Refusal::Form)?;
+    need(ranged(&row, q), Refusal::Range)?;
     Ok(holds(records, order, topic, q.a, q.b, Mode::from(q.m)))
 }

@@ -5,7 +5,7 @@ ghost use Rattle.monitor.specs.Lists.{InTurn, Listed};
 
 use crate::record::Record;
 use block::{Block, Records};
-use model::Refusal;
+use model::{Refusal, need};
 use policy::{HouseRule, LevelOrder};
 use requests::answer;
 
@@ -52,9 +52,7 @@ pub(crate) fn answer_list<O: LevelOrder, R: HouseRule>(
     let Some(held) = &mut block.records else {
         return Err(Refusal::Blank);
     };
-    if records.len() > LONGEST {
-        return Err(Refusal::ListTooLong);
-    }
+    need(records.len() <= LONGEST, Refusal::ListTooLong)?;
     answer_each(held, order, rule, records);
     Ok(())
 }

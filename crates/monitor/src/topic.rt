@@ -1,7 +1,7 @@
 //! What a question asks.
 ghost use Rattle.std.specs.Prelude.{◌≡◌, Some, None, MatchResult};
 ghost use Rattle.model.specs.declared.answer.Refusal.TheVariants.{Form};
-ghost use Rattle.monitor.specs.Questions.{topic_numbered};
+ghost use Rattle.monitor.specs.Questions.{topic_numbered, question_of};
 
 use model::{Refusal, Span};
 
@@ -13,6 +13,15 @@ pub struct Question {
     pub a: u32,
     pub b: u32,
     pub m: u32,
+}
+
+/// A question of its four numbers, in their order.
+impl From<[u32; 4]> for Question {
+    ghost from_gives = { λ numbers q. q ≡ question_of numbers };
+
+    fn from([q, a, b, m]: [u32; 4]) -> Question {
+        Question { q, a, b, m }
+    }
 }
 
 /// What can be asked: a role's right, a held role, an access, a flow, control, or reach.

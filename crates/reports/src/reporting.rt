@@ -5,7 +5,7 @@ ghost use Rattle.reports.specs.Report.{ListsAll, Reports, pairs};
 use crate::measuring::report_len;
 use crate::writing::write_report;
 use block::Block;
-use model::Refusal;
+use model::{Refusal, need};
 
 /// Writes the report into the buffer and answers its length. A blank block and a buffer that is shorter than the report
 /// are refused, and the buffer then stays as it was.
@@ -15,9 +15,7 @@ pub fn report(block: &Block, buffer: &mut [u8]) -> Result<usize, Refusal>
     let Some(records) = &block.records else {
         return Err(Refusal::Blank);
     };
-    if buffer.len() < report_len(records) {
-        return Err(Refusal::BufferTooShort);
-    }
+    need(report_len(records) <= buffer.len(), Refusal::BufferTooShort)?;
     Ok(write_report(records, buffer))
 }
 
