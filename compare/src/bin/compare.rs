@@ -10,10 +10,11 @@ use std::process::{Command, ExitCode, Stdio};
 use std::thread;
 use std::time::Instant;
 
-const USAGE: &str = "usage: compare [--quick] [--seed N] [--calls N] [--input N] [--bench PATH] [--pedal PATH]
+const USAGE: &str = "usage: compare [--quick] [--seed N] [--calls N] [--input PLACE] [--bench PATH] [--pedal PATH]
 
 Compares the proved programs with the peer on random inputs of a seed, until so many calls are made.
---quick makes fewer calls. --input N writes input N of the seed, counted from 0, to standard output instead.";
+--quick makes fewer calls. With --input the one input at that place among those of the seed, the first at 0, is written to standard output
+instead.";
 
 /// How many calls are made.
 const CALLS: u64 = 5_000_000;
