@@ -1,5 +1,5 @@
 //! What is written down of accounts, roles, items and sessions.
-//! Four setters of one assignment each: one for all would take the table too, and be longer.
+//! The setters are one assignment each: one for all would take the table too, and be longer.
 ghost use Rattle.std.specs.Prelude.{◌≡◌, ◌<◌};
 ghost use Rattle.model.specs.Effects.{item as item_is, took};
 ghost use Rattle.block.specs.Reading.{state};

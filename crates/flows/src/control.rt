@@ -1,4 +1,5 @@
-//! Who controls whom. By a program and by a key are two rules, and two functions.
+//! Who controls whom. By a program and by a key are two functions, as they are two rules: a key asks that the session lives, and its flow
+//! goes the other way. Relations and tables are two parameters, as in `rules`.
 ghost use Rattle.std.specs.Prelude.{◌≡◌, ℕ, ◌<◌};
 ghost use Rattle.model.specs.Records.{Session};
 ghost use Rattle.model.specs.Flows.{key};

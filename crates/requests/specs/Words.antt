@@ -12,10 +12,6 @@ manages S x role a = S.stands (Held x a) && role_manages (role_of S.cards a) rol
 abbrev pub holds_too : State → ℕ → ℕ → ℕ → Bool
 holds_too S z y c = not (c == z) && S.stands (Holding c y)
 
--- container y holds e
-abbrev pub holds : State → ℕ → ℕ → Bool
-holds S y e = S.stands (Holding y e)
-
 abbrev pub is_key_of_account : State → ℕ → ℕ → Bool
 is_key_of_account S y a = (account_of S.cards a).key == y
 

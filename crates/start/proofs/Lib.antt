@@ -2,4 +2,3 @@ pub mod Mapped
 pub mod Shapes
 pub mod Fitting
 pub mod Outcome
-pub mod Below

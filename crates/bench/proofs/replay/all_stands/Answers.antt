@@ -2,7 +2,7 @@ use Rattle.std.proofs.Common.{ℕ, rules, refl}
 use Rattle.std.proofs.lemmas.Iterator.{YieldsList-from_range, cases_from_all}
 use borrow.Author.Tests.{tests}
 use Rattle.block.specs.Reading.{state}
-use Rattle.start.proofs.Below.{all_below}
+use Rattle.sets.proofs.Below.{all_below}
 use Rattle.bench.specs.Standing.{RowToo}
 use Rattle.bench.proofs.Standing.{on_true, stands_within}
 use Rattle.bench.proofs.replay.all_stands.Goals as goal

@@ -2,7 +2,7 @@ use Rattle.std.proofs.Common.{ℕ, T, rules, refl}
 use Rattle.std.proofs.lemmas.Iterator.{YieldsList-from_range, cases_from_all}
 use borrow.Author.Tests.{tests}
 use Rattle.block.specs.Reading.{state}
-use Rattle.start.proofs.Below.{all_below}
+use Rattle.sets.proofs.Below.{all_below}
 use Rattle.bench.specs.Standing.{pair_too}
 use Rattle.bench.proofs.Standing.{on_true}
 use Rattle.bench.proofs.replay.pairs_stand.Goals as goal

@@ -1,5 +1,5 @@
 use Rattle.std.proofs.Common.{◌≡◌, ℕ, ◌<◌, sym, refl, ◌∙◌, subst, arith}
-use Rattle.sets.specs.Member.{relates}
+use Rattle.sets.specs.Member.{in_set, relates}
 use Rattle.sets.proofs.Chaining.{Gained, joined}
 use Rattle.sets.proofs.Steps.{spread_of, clash}
 use Rattle.model.specs.declared.fact.Fact.{Fact}
@@ -23,7 +23,7 @@ returns c tables u =
     let r = c.args.relations.now in
     let i : c.args.s < 256 = omega (arith, c.requires.s) in
     let l : c.args.t < 256 = omega (arith, c.requires.t) in
-    let row = c.row.result.now in
+    let row = in_set c.row.result.now in
     let More = Gained r.flows c.join.new.self c.args.s row c.join.result i c.join.ensures.members c.join.ensures.grew in
     let controls : Has tables r (Fact.Control c.args.s c.args.t) =
     placed 64 64 c.args.s c.args.t (relates r.control c.args.s c.args.t) c.requires.s c.requires.t (sym c.if-not-has.ensures) in

@@ -2,7 +2,7 @@ use Rattle.std.proofs.Common.{rules, refl}
 use borrow.Author.Tests.{tests}
 use Rattle.block.specs.Reading.{state}
 use Rattle.requests.specs.Words.{is_key_of_role}
-use Rattle.requests.proofs.Below.{any_below}
+use Rattle.sets.proofs.Below.{any_below}
 use Rattle.requests.proofs.words.is_role_key.Goals as goal
 
 pub returns : goal.returns

@@ -2,7 +2,7 @@ use Rattle.std.proofs.Common.{rules, refl}
 use borrow.Author.Tests.{tests}
 use Rattle.block.specs.Reading.{state}
 use Rattle.requests.specs.Words.{holds_too}
-use Rattle.requests.proofs.Below.{any_below}
+use Rattle.sets.proofs.Below.{any_below}
 use Rattle.requests.proofs.words.lies_elsewhere.Goals as goal
 
 pub returns : goal.returns

@@ -2,7 +2,7 @@ use Rattle.std.proofs.Common.{ℕ, rules, true, false, T, refl}
 use Rattle.std.proofs.lemmas.Iterator.{YieldsList-from_range, cases_from_all}
 use borrow.Author.Tests.{tests}
 use Rattle.sets.specs.Member.{bit}
-use Rattle.start.proofs.Below.{all_below}
+use Rattle.sets.proofs.Below.{all_below}
 use Rattle.start.proofs.words.each_role.Goals as goal
 
 pub returns : goal.returns

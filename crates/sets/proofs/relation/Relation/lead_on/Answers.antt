@@ -1,5 +1,5 @@
 use Rattle.std.proofs.Common.{ℕ, sym, refl, ◌∙◌, subst}
-use Rattle.sets.specs.Member.{relates}
+use Rattle.sets.specs.Member.{in_set, relates}
 use Rattle.sets.specs.declared.relation.Relation.{Relation}
 use Rattle.sets.specs.Chains.{Has, LeadsOn, Chained, given, on}
 use Rattle.sets.proofs.Steps.{still, spread_of, clash}
@@ -15,7 +15,7 @@ pub returns : goal.returns
 returns g c =
     let old = c.args.self.now in
     let new = c.join.new.self in
-    let behind = c.row.result.now in
+    let behind = in_set c.row.result.now in
     spread_of (chains g.row.N g.row.W) old new c.join.result (Gained old new c.args.a behind c.join.result c.requires.a c.join.ensures.members c.join.ensures.grew)
     (LeadsOn c.args.a c.args.b)
     (joined old new c.args.a behind c.join.result c.requires.a c.join.ensures.members c.join.ensures.grew)
