@@ -10,6 +10,14 @@ use crate::relations::Relations;
 use crate::tables::{Session, Tables};
 use sets::{Relation, Set};
 
+// A literal: with `Session::default()` in its place LLVM no longer makes one write of all the zeros of the tables.
+const NO_SESSION: Session = Session {
+    account: 0,
+    life: 0,
+    program: 0,
+    parent: 0,
+};
+
 impl Tables {
     /// Tables in which nothing is written.
     fn new() -> Tables
@@ -26,7 +34,7 @@ impl Tables {
             accounts: [None; 16],
             roles: [None; 32],
             items: [None; 256],
-            sessions: [Session::default(); 64],
+            sessions: [NO_SESSION; 64],
             live: Set::new(),
             held: Relation::new(),
             rights: [Relation::new(); 4],

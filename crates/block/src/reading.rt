@@ -60,6 +60,8 @@ impl Tables {
 
 impl Records {
     /// Whether the fact stands.
+    // Inlined, for the fact is mostly a literal: then only its case is left.
+    #[inline(always)]
     pub fn stands(&self, fact: Fact) -> bool
         ensures { result ≡ (state self.now).stands fact }
     {
