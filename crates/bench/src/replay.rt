@@ -48,6 +48,8 @@ pub(crate) fn give<O: LevelOrder, R: HouseRule>(
 }
 
 /// The fact stands in `b`, if it does in `a`.
+// Inlined, as `stands` is: a replay asks this some 800,000 times.
+#[inline(always)]
 fn stands_too(a: &Records, b: &Records, fact: Fact) -> bool
     ensures { result ≡ too (state a.now) (state b.now) fact }
 {

@@ -46,7 +46,10 @@ impl<'a> Script<'a> {
     {
         let (text, rest) = split_at_empty_line(self.left).unwrap_or((self.left, &[]));
         let read = &self.left[..self.left.len() - rest.len()];
-        let ends = read.iter().filter(|b| **b == b'\n').count();
+        // No `filter` and `count`, which go byte by byte. At most one a byte, so the sum does not wrap.
+        let ends = read
+            .iter()
+            .fold(0usize, |n, b| n.wrapping_add(usize::from(*b == b'\n')));
         self.line = self.line.saturating_add(ends);
         self.left = rest;
         text

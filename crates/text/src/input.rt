@@ -22,12 +22,10 @@ pub fn first_line<'a>(text: &'a [u8]) -> Option<(&'a [u8], &'a [u8])>
 fn empty_line(text: &[u8]) -> Option<usize>
     ensures { MatchOption result (NoneBefore text.now (length text.now)) (λ n. (n < length text.now) × EmptyAt text.now n × NoneBefore text.now n) }
 {
-    let mut behind = b'\n';
     for (at, b) in text.iter().enumerate() {
-        if behind == b'\n' && *b == b'\n' {
+        if *b == b'\n' && (at == 0 || text[at - 1] == b'\n') {
             return Some(at);
         }
-        behind = *b;
     }
     None
 }

@@ -10,7 +10,12 @@ pub(crate) fn numeral_len(n: u32) -> usize
     ensures value { result ≡ length (numeral n) }
     ensures few { result ≤ 10 }
 {
-    n.max(1).ilog10() as usize + 1
+    // Sessions have one digit or two, and a report asks for thousands.
+    match n {
+        0..=9 => 1,
+        10..=99 => 2,
+        _ => n.ilog10() as usize + 1,
+    }
 }
 
 fn last_digit(n: u32) -> u8
