@@ -163,10 +163,12 @@ impl<O: LevelOrder, R: HouseRule> Asking<'_, O, R> {
     {
         let Asking { records, order, q, .. } = *self;
         let mode = Mode::from(q.m);
-        let level = records.tables.level(q.y);
         need(entitled(records, q.x, q.y, mode), Refusal::AccessMissing)?;
         need(reaches(records, order, q.x, q.y), Refusal::NotReached)?;
-        need(mode == Mode::Read || vouched(records, order, q.v, level), Refusal::NoVoucher)
+        match mode {
+            Mode::Read => Ok(()),
+            _ => need(vouched(records, order, q.v, records.tables.level(q.y)), Refusal::NoVoucher),
+        }
     }
 
     fn give_up(&self) -> Result<(), Refusal>
