@@ -13,8 +13,7 @@ use std::time::Instant;
 const USAGE: &str = "usage: compare [--quick] [--seed N] [--calls N] [--input PLACE] [--bench PATH] [--pedal PATH]
 
 Compares the proved programs with the peer on random inputs of a seed, until so many calls are made.
---quick makes fewer calls. With --input the one input at that place among those of the seed, the first at 0, is written to standard output
-instead.";
+--quick makes fewer calls. With --input, the input at that place among those drawn, the first at 0, is written to standard output instead.";
 
 /// How many calls are made.
 const CALLS: u64 = 5_000_000;

@@ -106,9 +106,8 @@ impl<O: LevelOrder, R: HouseRule> Grounds<'_, O, R> {
     {
         let Grounds { order, all, .. } = *self;
         let tables = &all.tables;
-        let (low, high) = (tables.level(item), tables.role_level(role));
         need(tables.role(role).is_some() && tables.item(item).is_some(), Refusal::LineUndefined)?;
-        need(!Mode::from(right).is_strong() || order.at_or_below(low, high), Refusal::LineLevels)
+        need(!Mode::from(right).is_strong() || order.at_or_below(tables.level(item), tables.role_level(role)), Refusal::LineLevels)
     }
 
     fn held(&self, session: u32, role: u32) -> Result<(), Refusal>
@@ -130,9 +129,8 @@ impl<O: LevelOrder, R: HouseRule> Grounds<'_, O, R> {
     {
         let Grounds { order, all, .. } = *self;
         let tables = &all.tables;
-        let (low, high) = (tables.level(item), tables.level(session));
         need(tables.item(session).is_some() && tables.item(item).is_some(), Refusal::LineUndefined)?;
-        need(!Mode::from(access).is_strong() || order.at_or_below(low, high), Refusal::LineLevels)?;
+        need(!Mode::from(access).is_strong() || order.at_or_below(tables.level(item), tables.level(session)), Refusal::LineLevels)?;
         need(reaches(all, order, session, item), Refusal::LineNotReached)
     }
 }
